@@ -1,6 +1,6 @@
 #!/usr/bin/env python3
 """Runs each word of the programs at each value of its small options and on its largest inputs: where no memory is refused,
-each ends well; and none ends for want of memory to which none was refused.
+each ends well; and none ends out of memory to which none was refused.
 
     tools/memory_at_will.py CURP CURPD FOLDER [--short]
 

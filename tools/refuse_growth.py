@@ -58,7 +58,7 @@ def run(curp, words, script, library, call):
 
 
 def is_out_of_memory(ended):
-    """Whether a run ended for want of memory, which was refused."""
+    """Whether a run ended out of memory, which was refused."""
     return ended.status == 6 and ended.err == b"curp: out of memory\n" and ended.counts.refused > 0
 
 

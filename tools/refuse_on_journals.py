@@ -217,7 +217,7 @@ class Row(NamedTuple):
 
 
 def has_to_end(ended, whole, is_front=False):
-    """A run has to end for want of memory, with a front of what another one says, or as that one does."""
+    """A run has to end out of memory, with a front of what another one says, or as that one does."""
     is_cut = ended.status == NO_MEMORY and ended.err == b"out of memory\n" and whole.out.startswith(ended.out)
     want(f"status {ended.status}, {ended.err}", is_cut or (ended.status, ended.err) == (whole.status, whole.err))
     same = ended.out == whole.out or is_front and heard(ended.out) == heard(whole.out)

@@ -183,11 +183,11 @@ fn others_anew(
         × (logs.1.0.items ≡ all_handed_out backups.1 backups.3.items)
         × (logs.1.1.items ≡ all_handed_out witnesses.1 witnesses.3.items))) }
 {
-    let Some(front) = both_anew(alloc, clients, masters)? else {
+    let Some(prefix) = both_anew(alloc, clients, masters)? else {
         return Ok(None);
     };
     let Some(back) = both_anew(alloc, backups, witnesses)? else {
         return Ok(None);
     };
-    Ok(Some((front, back)))
+    Ok(Some((prefix, back)))
 }

@@ -132,7 +132,7 @@ impl Backup {
         self.log.suffix(0)
     }
 
-    /// How many of its oldest entries are packed, and their spellings, one behind the other.
+    /// How many of its oldest entries are packed, and their encodings, one behind the other.
     pub fn packed(&self) -> (u64, &[u8])
         ensures { IsPackedPart self.now.log result.0 result.1.now }
     {

@@ -61,8 +61,8 @@ module _ {K : Type 0} (R : K → K → Ordering) (o : IsTotalOrder R) where
       higher = λ k d l h. g.higher (suc k) d (omega arith) (omega arith);
     }
 
-    gap_front : (e : K × X) (es : List (K × X)) (key : K) → IsKeyGap R (e ∷ es) key zero → IsKeyGap R es key zero
-    gap_front e es key g = record { within = omega arith; lower = λ k d l. absurd (omega arith); higher = λ k d l h. g.higher (suc k) d (omega arith) (omega arith) }
+    gap_prefix : (e : K × X) (es : List (K × X)) (key : K) → IsKeyGap R (e ∷ es) key zero → IsKeyGap R es key zero
+    gap_prefix e es key g = record { within = omega arith; lower = λ k d l. absurd (omega arith); higher = λ k d l h. g.higher (suc k) d (omega arith) (omega arith) }
 
     pub found_at : (es : List (K × X)) (key : K) (at : ℕ) (d : K × X) → IsKeyAt R es key at → find R key es ≡ Some (get_or es at d).1
     found_at [] key at d p = absurd (omega (arith, p.within))
@@ -75,7 +75,7 @@ module _ {K : Type 0} (R : K → K → Ordering) (o : IsTotalOrder R) where
     none_in_gap [] key at g = refl
     none_in_gap (e ∷ es) key zero g =
         let apart : R key e.0 ≡ Less = greater_back e.0 key (g.higher 0 e (omega arith) (omega arith)) in
-        rw apart (none_in_gap es key zero (gap_front e es key g))
+        rw apart (none_in_gap es key zero (gap_prefix e es key g))
     none_in_gap (e ∷ es) key (suc at) g =
         let apart : R key e.0 ≡ Greater = less_back e.0 key (g.lower 0 e (omega arith)) in
         rw apart (none_in_gap es key at (gap_tail e es key at g))

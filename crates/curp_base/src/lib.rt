@@ -1,4 +1,4 @@
-//! What every crate of curp stands on: want of memory, lists as plain data, in any order or an ascending one, and words
+//! What every crate of curp stands on: running out of memory, lists as plain data, in any order or an ascending one, and words
 //! and lemmas on lists.
 //!
 //! - `Boxed`: a value at a place of its own; `Shared`: one that several hold, which stands in memory once. Contracts see

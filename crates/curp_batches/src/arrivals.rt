@@ -19,7 +19,7 @@ use std::alloc::Global;
 #[tactic(auto, unfolding(crate::specs::Arrivals::arrival))]
 pub fn write_arrival(alloc: Global, arrived: &Arrived, out: &mut Writer) -> Result<(), WriteError>
     ensures writes { OnOk result (out.new ≡ record {
-      front = out.old.front;
+      prefix = out.old.prefix;
       text = out.old.text
           ++ arrival.of arrived.now;
     }) }
@@ -42,7 +42,7 @@ pub fn write_arrival(alloc: Global, arrived: &Arrived, out: &mut Writer) -> Resu
 #[tactic(auto, unfolding(crate::specs::Arrivals::named, crate::specs::Arrivals::name, crate::specs::Arrivals::frame), using(crate::proofs::Encodings::frame_fits, crate::proofs::Encodings::frame_text, crate::proofs::Encodings::no_sender, crate::proofs::Encodings::unframed))]
 fn write_named(alloc: Global, sent: &Named, out: &mut Writer) -> Result<(), WriteError>
     ensures writes { OnOk result (out.new ≡ record {
-      front = out.old.front;
+      prefix = out.old.prefix;
       text = out.old.text
           ++ named.of sent.now;
     }) }
@@ -61,7 +61,7 @@ fn write_named(alloc: Global, sent: &Named, out: &mut Writer) -> Result<(), Writ
 #[tactic(auto, unfolding(crate::specs::Arrivals::stamped))]
 fn write_stamped(order: &Local, stamp: u64, out: &mut Writer) -> Result<(), NoMemory>
     ensures writes { OnOk result (out.new ≡ record {
-      front = out.old.front;
+      prefix = out.old.prefix;
       text = out.old.text
           ++ stamped.of (order.now, stamp);
     }) }

@@ -23,9 +23,9 @@ pub united_more : (spans : List Span) (k lo hi : ℕ) (s : Span) (old new : List
     → (h : ℕ) → is_owned new h ≡ (is_owned (take (k + 1) spans) h || is_in lo hi h)
 united_more spans k lo hi s old new within here so_far more h =
     let next : take (k + 1) spans ≡ take k spans ++ s ∷ [] = take_more spans k s within ∙ ap (λ (x : Span). take k spans ++ x ∷ []) (sym here) in
-    let front : is_owned (take (k + 1) spans) h ≡ (is_owned (take k spans) h || is_in s.0 s.1 h) =
+    let prefix : is_owned (take (k + 1) spans) h ≡ (is_owned (take k spans) h || is_in s.0 s.1 h) =
     ap (λ (xs : List Span). is_owned xs h) next ∙ owned-append (take k spans) (s ∷ []) h ∙ ap (λ (b : Bool). is_owned (take k spans) h || b) (owned_one s h) in
-    more h ∙ ap (λ (b : Bool). b || is_in s.0 s.1 h) (so_far h) ∙ turned (is_owned (take k spans) h) (is_in lo hi h) (is_in s.0 s.1 h) ∙ ap (λ (b : Bool). b || is_in lo hi h) (sym front)
+    more h ∙ ap (λ (b : Bool). b || is_in s.0 s.1 h) (so_far h) ∙ turned (is_owned (take k spans) h) (is_in lo hi h) (is_in s.0 s.1 h) ∙ ap (λ (b : Bool). b || is_in lo hi h) (sym prefix)
   where
     turned : (a b c : Bool) → ((a || b) || c) ≡ ((a || c) || b)
     turned true b c = refl

@@ -29,14 +29,14 @@ pub invoke_refused : (n : ℕ) (c : ClientState) (command : Command) (why : ℕ)
 unfolding invoke
 invoke_refused n c command why e = rw e refl
 
--- want of memory is told only of what isn't refused
-pub invoke_wants_memory : {A : Type 0} (n : ℕ) (c : ClientState) (command : Command) (p : PartConfig) (r : Result A InvokeError) → invocation_for c command ≡ Ok p
+-- running out of memory is told only of what isn't refused
+pub invoke_out_of_memory : {A : Type 0} (n : ℕ) (c : ClientState) (command : Command) (p : PartConfig) (r : Result A InvokeError) → invocation_for c command ≡ Ok p
     → IsErr r × IsErrAnd r (λ why. why ≡ for_invoke.NoMemory) → TellsInvoke (invoke n c command).refused r
-invoke_wants_memory n c command p (Ok x) e wants = absurd wants.1
-invoke_wants_memory n c command p (Err why) e wants = ap (λ (m : Moved ClientState). m.refused) (invoke_made n c command p e) ∙ ap invoke_number (sym wants.1)
+invoke_out_of_memory n c command p (Ok x) e wants = absurd wants.1
+invoke_out_of_memory n c command p (Err why) e wants = ap (λ (m : Moved ClientState). m.refused) (invoke_made n c command p e) ∙ ap invoke_number (sym wants.1)
 
 -- what invoking comes to
-pub ruleset invoking = (invoke_made, invoke_refused, invoke_wants_memory)
+pub ruleset invoking = (invoke_made, invoke_refused, invoke_out_of_memory)
 
 -- ---- a pending request is sent again
 
@@ -58,11 +58,11 @@ module _ (n : ℕ) (c : ClientState) (seq : ℕ) where
         let owns : owner_of c.config q.request.command ≡ Some p = ap (λ (r : Request). owner_of c.config r.command) (sym its) ∙ sym owner in
         rw (sym found, owns) refl
 
-    -- want of memory is told only of what isn't refused
-    pub retry_wants_memory : {A : Type 0} (p : PartConfig) (r : Result A RetryError) → Some p ≡ owner_of c.config request.command
+    -- running out of memory is told only of what isn't refused
+    pub retry_out_of_memory : {A : Type 0} (p : PartConfig) (r : Result A RetryError) → Some p ≡ owner_of c.config request.command
         → IsErr r × IsErrAnd r (λ why. why ≡ for_retry.NoMemory) → TellsRetry (retry n c seq).refused r
-    retry_wants_memory p (Ok x) owner wants = absurd wants.1
-    retry_wants_memory p (Err why) owner wants = ap (λ (m : Moved ClientState). m.refused) (retry_made p owner) ∙ ap retry_number (sym wants.1)
+    retry_out_of_memory p (Ok x) owner wants = absurd wants.1
+    retry_out_of_memory p (Err why) owner wants = ap (λ (m : Moved ClientState). m.refused) (retry_made p owner) ∙ ap retry_number (sym wants.1)
 
     -- once it is sent
     pub retry_sends : (p : PartConfig) (attempt : Attempt) (pending : List Pending) (messages : List Message) → Some p ≡ owner_of c.config request.command

@@ -5,20 +5,20 @@ use Rattle.curp_client.specs.declared.error.InvokeError.TheVariants as invoke
 use Rattle.curp_client.specs.declared.error.RetryError.{RetryError}
 use Rattle.curp_client.specs.declared.error.RetryError.TheVariants as retry
 
--- the number of each cause for which nothing is invoked; want of memory is no refusal
+-- the number of each cause for which nothing is invoked; running out of memory is no refusal
 abbrev pub invoke_number : InvokeError → ℕ
 invoke_number invoke.TooMany = 1
 invoke_number invoke.Numbers = 2
 invoke_number invoke.Split = 3
 invoke_number invoke.NoMemory = 0
 
--- the number of each cause for which nothing is sent again; want of memory is no refusal
+-- the number of each cause for which nothing is sent again; running out of memory is no refusal
 abbrev pub retry_number : RetryError → ℕ
 retry_number retry.NotPending = 1
 retry_number retry.Split = 2
 retry_number retry.NoMemory = 0
 
--- a call tells by its error the number of the refusal, so that only an order which isn't refused wants memory
+-- a call tells by its error the number of the refusal, so that only an order which isn't refused needs memory
 abbrev pub TellsInvoke : {A : Type 0} → ℕ → Result A InvokeError → Type 0
 TellsInvoke refused (Ok done) = refused ≡ 0
 TellsInvoke refused (Err why) = refused ≡ invoke_number why

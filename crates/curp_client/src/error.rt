@@ -28,7 +28,7 @@ pub enum RetryError {
 }
 
 impl InvokeError {
-    /// The number by which a step tells the refusal, and 0 for want of memory, which is none.
+    /// The number by which a step tells the refusal, and 0 out of memory, which is none.
     pub fn number(self) -> u8
         ensures { result ≡ invoke_number self }
     {
@@ -42,7 +42,7 @@ impl InvokeError {
 }
 
 impl RetryError {
-    /// The number by which a step tells the refusal, and 0 for want of memory, which is none.
+    /// The number by which a step tells the refusal, and 0 out of memory, which is none.
     pub fn number(self) -> u8
         ensures { result ≡ retry_number self }
     {

@@ -1,7 +1,7 @@
 //! A client as a data structure: its requests until they complete, and what was delivered for each of them.
 //!
 //! `Client::invoke`, `retry`, `fetch` and `on_message`: exact, by `Moves`, over the definition of a client. Each error
-//! but want of memory comes exactly where the definition refuses by that number, so a call that is refused wants no
+//! but running out of memory comes exactly where the definition refuses by that number, so a call that is refused wants no
 //! memory; after an error nothing has changed. That no pending number is past the last one is a clause.
 #![tactic(auto)]
 

@@ -80,7 +80,7 @@ abbrev pub goes : World → Deed → Option StepResult → StepResult
 goes w deed (Some why) = why
 goes w deed None = taken_by (effect w deed).refused
 
--- the call made the step, and its outcome is handed out; by an error, as by want of memory, nothing has changed
+-- the call made the step, and its outcome is handed out; by an error, as by running out of memory, nothing has changed
 abbrev pub MakesStep : {E : Type 0} → (old new : World) → Result Outcome E → Stepped → Type 0
 MakesStep old new (Ok outcome) s = (new ≡ s.world) × (outcome ≡ s.outcome)
 MakesStep old new (Err why) s = new ≡ old

@@ -143,7 +143,7 @@ due_marks nodes to given = due_by_kind nodes to.kind to.number given
 abbrev pub told_due : Due → DueMarks
 told_due due.Nothing = Nothing
 told_due (due.Since former) = Since former
-told_due (due.Adoption a) = Adopts a.tenure.master a.tenure.part a.tenure.epoch a.cut a.replayed.items
+told_due (due.Adoption a) = Adopts a.term.master a.term.part a.term.epoch a.cut a.replayed.items
 
 -- ---- what is marked then
 

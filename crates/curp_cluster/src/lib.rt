@@ -2,7 +2,7 @@
 //! knows no law.
 //!
 //! - `Cluster::new`: exact, of a header whose numbers are in their ranges. `step`, clauses `state` and `outcome`: exact, of
-//!   any step. Clause `err`: for want of memory nothing has changed. `config`, `message`, `sent`, `weight`,
+//!   any step. Clause `err`: out of memory nothing has changed. `config`, `message`, `sent`, `weight`,
 //!   `history`, `order`: exact.
 #![tactic(auto)]
 

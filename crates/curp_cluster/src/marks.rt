@@ -17,7 +17,7 @@ use crate::given::Given;
 use crate::nodes::Nodes;
 use curp_base::{NoMemory, Shared};
 use curp_cmd::{Entry, KeptCommand, NodeId, NodeKind, Request, RequestId, Standby};
-use curp_line::{Line, Tenure};
+use curp_line::{Line, Term};
 use curp_log::Log;
 use curp_master::{Captured, Master};
 use curp_msg::{Body, Completed, Config, GcAnswer, Message};
@@ -27,7 +27,7 @@ use std::alloc::Global;
 /// What a recovery has replayed that is adopted: the length of the log that it was given, and the requests behind that.
 #[derive(Drop)]
 pub(crate) struct Adoption {
-    tenure: Tenure,
+    term: Term,
     cut: u64,
     replayed: Vec<Shared<Request>>,
 }
@@ -111,13 +111,13 @@ fn due_of_adoption(alloc: Global, nodes: &Nodes, message: &Message) -> Result<Du
     };
     // For its clause alone.
     let _length = log.len();
-    let tenure = Tenure {
+    let term = Term {
         master,
         part: order.part,
         epoch: order.epoch,
     };
     Ok(Due::Adoption(Adoption {
-        tenure,
+        term,
         cut,
         replayed: op_requests(alloc, &log.suffix(cut)?)?,
     }))
@@ -171,7 +171,7 @@ impl Due {
                 }
             }
             Due::Adoption(a) => {
-                marks.adopted(standby, a.tenure, a.cut, &a.replayed);
+                marks.adopted(standby, a.term, a.cut, &a.replayed);
             }
         }
     }
@@ -188,8 +188,8 @@ impl Former {
             self.add_behind(marks, standby, node, master);
         }
         if let Some(read) = self.answered(master) {
-            let (tenure, id) = (tenure_of(node, master), read.id);
-            marks.quick(tenure, master.captured(), id, KeptCommand::of(read));
+            let (term, id) = (term_of(node, master), read.id);
+            marks.quick(term, master.captured(), id, KeptCommand::of(read));
         }
     }
 
@@ -214,7 +214,7 @@ impl Former {
         let log = master.log();
         // For their clauses alone.
         let (_length, _captured) = (log.len(), master.captured());
-        add_ops(marks, standby, tenure_of(node, master), self.length, log);
+        add_ops(marks, standby, term_of(node, master), self.length, log);
         if is_captured_behind(master.last_capture(), self.captured) {
             add_capture(marks, standby, node, master);
         }
@@ -289,14 +289,14 @@ fn is_captured_behind(last: Option<&Captured>, captured: u64) -> bool
 }
 
 // The time of the master over its partition.
-fn tenure_of(node: NodeId, master: &Master) -> Tenure
+fn term_of(node: NodeId, master: &Master) -> Term
     ensures { result ≡ record {
       master = node;
       part = master.now.state.part;
       epoch = master.now.state.epoch;
     } }
 {
-    Tenure {
+    Term {
         master: node,
         part: master.part(),
         epoch: master.epoch(),
@@ -311,26 +311,26 @@ fn add_capture(marks: &mut Line, standby: &mut Standby, node: NodeId, master: &M
         → marks.new.marks ≡ marks.old.marks
         ++ capture_mark node master.now.state.part master.now.state.epoch capture ∷ [] }
 {
-    let tenure = tenure_of(node, master);
+    let term = term_of(node, master);
     if let Some(last) = master.last_capture() {
         let (number, length) = (last.number(), last.log_length());
         let command = standby.keep(last.request());
-        marks.looked(tenure, number, length, last.id(), command);
+        marks.looked(term, number, length, last.id(), command);
     }
 }
 
 // The marks of the ops among entries, which stand in a log from that index on.
-fn add_ops(marks: &mut Line, standby: &mut Standby, tenure: Tenure, index: u64, log: &Log)
+fn add_ops(marks: &mut Line, standby: &mut Standby, term: Term, index: u64, log: &Log)
     requires room { length (drop index log.now.entries) ≤ marks.old.spare }
     requires ready { length (drop index log.now.entries) ≤ standby.old }
     ensures marks { marks.new.marks ≡ marks.old.marks
-        ++ op_marks tenure.master tenure.part tenure.epoch index (drop index log.now.entries) }
+        ++ op_marks term.master term.part term.epoch index (drop index log.now.entries) }
     ensures spare { marks.old.spare ≤ marks.new.spare + length (drop index log.now.entries) }
     ensures ready { standby.old ≤ standby.new + length (drop index log.now.entries) }
 {
     for at in index..log.len() {
         if let Some((id, command)) = op_at(standby, log, at) {
-            marks.executed(tenure, at, id, command);
+            marks.executed(term, at, id, command);
         }
     }
 }

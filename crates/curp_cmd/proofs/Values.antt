@@ -16,26 +16,26 @@ fewer : (m n k : ℕ) → m + n ≡ k → 128 - m - n ≡ 128 - k
 fewer m n k e = omega arith
 
 -- the zeros that are left behind both
-zeros_left : (front ys : List ℕ) → drop (length ys) (drop (length front) (padded 128 front)) ≡ replicate (128 - length (front ++ ys)) 0
-zeros_left front ys =
-    ap (drop (length ys)) (drop-append_seam front (replicate (128 - length front) 0)) ∙ drop-replicate (length ys) (128 - length front) 0
-    ∙ ap (λ (m : ℕ). replicate m 0) (fewer (length front) (length ys) (length (front ++ ys)) (sym (length-append front ys)))
+zeros_left : (prefix ys : List ℕ) → drop (length ys) (drop (length prefix) (padded 128 prefix)) ≡ replicate (128 - length (prefix ++ ys)) 0
+zeros_left prefix ys =
+    ap (drop (length ys)) (drop-append_seam prefix (replicate (128 - length prefix) 0)) ∙ drop-replicate (length ys) (128 - length prefix) 0
+    ∙ ap (λ (m : ℕ). replicate m 0) (fewer (length prefix) (length ys) (length (prefix ++ ys)) (sym (length-append prefix ys)))
 
 -- the array after the bytes are written behind those that it holds
 pub joined_held : (len k n : ℕ) (array ys : List ℕ) → IsInPlace 128 0 len array → k ≡ length ys → n ≡ len + k → n ≤ 128 → AreBytes ys → IsInPlace 128 0 n (put_mid len k array ys)
 joined_held len k n array ys h e f g range =
-    let front = take len array in
-    let is_front : length front ≡ len = length_held h in
-    let taken : take n (put_mid len k array ys) ≡ front ++ ys = take-put_mid len k array ys n (omega arith) (omega (arith, h.fits, size_held h)) in
-    let rest : drop k (drop len array) ≡ replicate (128 - length (front ++ ys)) 0 =
-    ap (λ (w : List ℕ). drop k (drop len w)) h.zeros ∙ ap (λ (m : ℕ). drop k (drop m (padded 128 front))) (sym is_front)
-    ∙ ap (λ (m : ℕ). drop m (drop (length front) (padded 128 front))) e ∙ zeros_left front ys in
+    let prefix = take len array in
+    let is_prefix : length prefix ≡ len = length_held h in
+    let taken : take n (put_mid len k array ys) ≡ prefix ++ ys = take-put_mid len k array ys n (omega arith) (omega (arith, h.fits, size_held h)) in
+    let rest : drop k (drop len array) ≡ replicate (128 - length (prefix ++ ys)) 0 =
+    ap (λ (w : List ℕ). drop k (drop len w)) h.zeros ∙ ap (λ (m : ℕ). drop k (drop m (padded 128 prefix))) (sym is_prefix)
+    ∙ ap (λ (m : ℕ). drop m (drop (length prefix) (padded 128 prefix))) e ∙ zeros_left prefix ys in
     record {
       least_ok = omega arith;
       fits = g;
-      range = All-append (λ b. b < 256) front (ys ++ drop k (drop len array)) (All-take (λ b. b < 256) len array h.range)
+      range = All-append (λ b. b < 256) prefix (ys ++ drop k (drop len array)) (All-take (λ b. b < 256) len array h.range)
           (All-append (λ b. b < 256) ys (drop k (drop len array)) range (All-drop (λ b. b < 256) k (drop len array) (All-drop (λ b. b < 256) len array h.range)));
-      zeros = ap (λ (w : List ℕ). front ++ (ys ++ w)) rest ∙ sym (append_assoc front ys (replicate (128 - length (front ++ ys)) 0)) ∙ ap (padded 128) (sym taken);
+      zeros = ap (λ (w : List ℕ). prefix ++ (ys ++ w)) rest ∙ sym (append_assoc prefix ys (replicate (128 - length (prefix ++ ys)) 0)) ∙ ap (padded 128) (sym taken);
     }
 
 pub joined_are : (len k n : ℕ) (array ys : List ℕ) → IsInPlace 128 0 len array → k ≡ length ys → n ≡ len + k → take n (put_mid len k array ys) ≡ take len array ++ ys

@@ -78,13 +78,13 @@ impl Value {
     pub fn joined(&self, more: &Value) -> Option<Value>
         ensures { result ≡ (if nat_le (length (self.now ++ more.now)) 128 then Some (self.now ++ more.now) else None) }
     {
-        let (front, back) = (self.bytes(), more.bytes());
-        let len = front.len() + back.len();
+        let (prefix, back) = (self.bytes(), more.bytes());
+        let len = prefix.len() + back.len();
         if len > 128 {
             return None;
         }
         let mut bytes = self.bytes;
-        bytes[front.len()..len].copy_from_slice(back);
+        bytes[prefix.len()..len].copy_from_slice(back);
         Some(Value {
             bytes,
             len: len as u8,

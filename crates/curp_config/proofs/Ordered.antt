@@ -98,52 +98,52 @@ pub nudge_made : (g : ManagerState) → manager_ordered g local.Nudge ≡ model.
 unfolding manager_ordered model.nudge
 nudge_made g = stands g (model.nudge g) refl refl
 
--- ---- want of memory
+-- ---- running out of memory
 
--- want of memory is told only of what isn't refused
-pub recover_wants_memory : {A : Type 0} (g : ManagerState) (p backup witness : ℕ) (x : Recover) (r : Result A RecoverError) → model.recovery_for g p backup witness ≡ Ok x → counter_ends g.next (model.after_recover_numbers g) ≡ false → IsErr r × IsErrAnd r (λ why. why ≡ for_recover.NoMemory)
+-- running out of memory is told only of what isn't refused
+pub recover_out_of_memory : {A : Type 0} (g : ManagerState) (p backup witness : ℕ) (x : Recover) (r : Result A RecoverError) → model.recovery_for g p backup witness ≡ Ok x → counter_ends g.next (model.after_recover_numbers g) ≡ false → IsErr r × IsErrAnd r (λ why. why ≡ for_recover.NoMemory)
     → TellsRecover (manager_ordered g (local.Recover p backup witness)).refused r
-recover_wants_memory g p backup witness x (Ok done) e some wants = absurd wants.1
-recover_wants_memory g p backup witness x (Err why) e some wants = ap (λ (m : Moved ManagerState). m.refused) (recover_made g p backup witness x e some) ∙ ap recover_number (sym wants.1)
+recover_out_of_memory g p backup witness x (Ok done) e some wants = absurd wants.1
+recover_out_of_memory g p backup witness x (Err why) e some wants = ap (λ (m : Moved ManagerState). m.refused) (recover_made g p backup witness x e some) ∙ ap recover_number (sym wants.1)
 
--- want of memory names nothing
+-- running out of memory names nothing
 pub recover_names_nothing : {A : Type 0} (backup witness : ℕ) (r : Result A RecoverError) → IsErr r × IsErrAnd r (λ why. why ≡ for_recover.NoMemory) → IfErr r (NamesPlaces backup witness)
 recover_names_nothing backup witness (Ok done) wants = tt
 recover_names_nothing backup witness (Err why) wants = rw wants.1 tt
 
--- want of memory is told only of what isn't refused
-pub replace_wants_memory : {A : Type 0} (g : ManagerState) (kind : Keeper) (p place : ℕ) (x : PartConfig) (r : Result A ReplaceError) → model.replacement_for g kind p place ≡ Ok x → counter_ends g.next (model.after_replace_numbers g.next kind) ≡ false → IsErr r × IsErrAnd r (λ why. why ≡ for_replace.NoMemory)
+-- running out of memory is told only of what isn't refused
+pub replace_out_of_memory : {A : Type 0} (g : ManagerState) (kind : Keeper) (p place : ℕ) (x : PartConfig) (r : Result A ReplaceError) → model.replacement_for g kind p place ≡ Ok x → counter_ends g.next (model.after_replace_numbers g.next kind) ≡ false → IsErr r × IsErrAnd r (λ why. why ≡ for_replace.NoMemory)
     → TellsReplace (manager_ordered g (local.Replace kind p place)).refused r
-replace_wants_memory g kind p place x (Ok done) e some wants = absurd wants.1
-replace_wants_memory g kind p place x (Err why) e some wants = ap (λ (m : Moved ManagerState). m.refused) (replace_made g kind p place x e some) ∙ ap replace_number (sym wants.1)
+replace_out_of_memory g kind p place x (Ok done) e some wants = absurd wants.1
+replace_out_of_memory g kind p place x (Err why) e some wants = ap (λ (m : Moved ManagerState). m.refused) (replace_made g kind p place x e some) ∙ ap replace_number (sym wants.1)
 
--- want of memory names nothing
+-- running out of memory names nothing
 pub replace_names_nothing : {A : Type 0} (doing : Option model.Doing) (r : Result A ReplaceError) → IsErr r × IsErrAnd r (λ why. why ≡ for_replace.NoMemory) → IfErr r (NamesWork doing)
 replace_names_nothing doing (Ok done) wants = tt
 replace_names_nothing doing (Err why) wants = rw wants.1 tt
 
--- want of memory is told only of what isn't refused
-pub migrate_wants_memory : {A : Type 0} (g : ManagerState) (lo hi to : ℕ) (x : model.Move) (r : Result A MigrateError) → model.move_for g lo hi to ≡ Ok x → counter_ends g.next (record g.next { migration = g.next.migration + 1 }) ≡ false → IsErr r × IsErrAnd r (λ why. why ≡ for_migrate.NoMemory)
+-- running out of memory is told only of what isn't refused
+pub migrate_out_of_memory : {A : Type 0} (g : ManagerState) (lo hi to : ℕ) (x : model.Move) (r : Result A MigrateError) → model.move_for g lo hi to ≡ Ok x → counter_ends g.next (record g.next { migration = g.next.migration + 1 }) ≡ false → IsErr r × IsErrAnd r (λ why. why ≡ for_migrate.NoMemory)
     → TellsMigrate (manager_ordered g (local.Migrate lo hi to)).refused r
-migrate_wants_memory g lo hi to x (Ok done) e some wants = absurd wants.1
-migrate_wants_memory g lo hi to x (Err why) e some wants = ap (λ (m : Moved ManagerState). m.refused) (migrate_made g lo hi to x e some) ∙ ap migrate_number (sym wants.1)
+migrate_out_of_memory g lo hi to x (Ok done) e some wants = absurd wants.1
+migrate_out_of_memory g lo hi to x (Err why) e some wants = ap (λ (m : Moved ManagerState). m.refused) (migrate_made g lo hi to x e some) ∙ ap migrate_number (sym wants.1)
 
--- want of memory names nothing
+-- running out of memory names nothing
 pub migrate_names_nothing : {A : Type 0} (moving : Option model.Migration) (r : Result A MigrateError) → IsErr r × IsErrAnd r (λ why. why ≡ for_migrate.NoMemory) → IfErr r (NamesMigration moving)
 migrate_names_nothing moving (Ok done) wants = tt
 migrate_names_nothing moving (Err why) wants = rw wants.1 tt
 
--- want of memory is told only of what isn't refused
-pub expire_wants_memory : {A : Type 0} (g : ManagerState) (client : ℕ) (x : ℕ) (r : Result A ExpireError) → model.client_for g client ≡ Ok x → IsErr r × IsErrAnd r (λ why. why ≡ for_expire.NoMemory)
+-- running out of memory is told only of what isn't refused
+pub expire_out_of_memory : {A : Type 0} (g : ManagerState) (client : ℕ) (x : ℕ) (r : Result A ExpireError) → model.client_for g client ≡ Ok x → IsErr r × IsErrAnd r (λ why. why ≡ for_expire.NoMemory)
     → TellsExpire (manager_ordered g (local.Expire client)).refused r
-expire_wants_memory g client x (Ok done) e wants = absurd wants.1
-expire_wants_memory g client x (Err why) e wants = ap (λ (m : Moved ManagerState). m.refused) (expire_made g client x e) ∙ ap expire_number (sym wants.1)
+expire_out_of_memory g client x (Ok done) e wants = absurd wants.1
+expire_out_of_memory g client x (Err why) e wants = ap (λ (m : Moved ManagerState). m.refused) (expire_made g client x e) ∙ ap expire_number (sym wants.1)
 
 -- what each order comes to
-pub ruleset recovering = (recover_refused, recover_made, recover_stops, recover_wants_memory, recover_names_nothing)
+pub ruleset recovering = (recover_refused, recover_made, recover_stops, recover_out_of_memory, recover_names_nothing)
 
-pub ruleset replacing = (replace_refused, replace_made, replace_stops, replace_wants_memory, replace_names_nothing)
+pub ruleset replacing = (replace_refused, replace_made, replace_stops, replace_out_of_memory, replace_names_nothing)
 
-pub ruleset migrating = (migrate_refused, migrate_made, migrate_stops, migrate_wants_memory, migrate_names_nothing)
+pub ruleset migrating = (migrate_refused, migrate_made, migrate_stops, migrate_out_of_memory, migrate_names_nothing)
 
-pub ruleset expiring = (expire_refused, expire_made, expire_wants_memory)
+pub ruleset expiring = (expire_refused, expire_made, expire_out_of_memory)

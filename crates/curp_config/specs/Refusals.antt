@@ -12,7 +12,7 @@ use Rattle.curp_config.specs.declared.error.MigrateError.TheVariants as migrate
 use Rattle.curp_config.specs.declared.error.ExpireError.{ExpireError}
 use Rattle.curp_config.specs.declared.error.ExpireError.TheVariants as expire
 
--- ---- the numbers; want of memory is no refusal
+-- ---- the numbers; running out of memory is no refusal
 
 -- the number of each cause for which nothing is recovered
 abbrev pub recover_number : RecoverError → ℕ
@@ -43,7 +43,7 @@ abbrev pub expire_number : ExpireError → ℕ
 expire_number expire.NoClient = 1
 expire_number expire.NoMemory = 0
 
--- ---- a call tells by its error the number of the refusal, so that only an order which isn't refused wants memory
+-- ---- a call tells by its error the number of the refusal, so that only an order which isn't refused needs memory
 
 abbrev pub TellsRecover : {A : Type 0} → ℕ → Result A RecoverError → Type 0
 TellsRecover refused (Ok done) = refused ≡ 0

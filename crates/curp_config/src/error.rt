@@ -58,7 +58,7 @@ pub enum ExpireError {
 }
 
 impl RecoverError {
-    /// The number by which a step tells the refusal, and 0 for want of memory, which is none.
+    /// The number by which a step tells the refusal, and 0 out of memory, which is none.
     pub fn number(self) -> u8
         ensures { result ≡ recover_number self }
     {
@@ -72,7 +72,7 @@ impl RecoverError {
 }
 
 impl ReplaceError {
-    /// The number by which a step tells the refusal, and 0 for want of memory, which is none.
+    /// The number by which a step tells the refusal, and 0 out of memory, which is none.
     pub fn number(self) -> u8
         ensures { result ≡ replace_number self }
     {
@@ -87,7 +87,7 @@ impl ReplaceError {
 }
 
 impl MigrateError {
-    /// The number by which a step tells the refusal, and 0 for want of memory, which is none.
+    /// The number by which a step tells the refusal, and 0 out of memory, which is none.
     pub fn number(self) -> u8
         ensures { result ≡ migrate_number self }
     {
@@ -103,7 +103,7 @@ impl MigrateError {
 }
 
 impl ExpireError {
-    /// The number by which a step tells the refusal, and 0 for want of memory, which is none.
+    /// The number by which a step tells the refusal, and 0 out of memory, which is none.
     pub fn number(self) -> u8
         ensures { result ≡ expire_number self }
     {

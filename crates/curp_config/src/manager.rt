@@ -239,7 +239,7 @@ impl Manager {
     }
 }
 
-// What is told of an order that wasn't made: the number of its refusal, else want of memory.
+// What is told of an order that wasn't made: the number of its refusal, else out of memory.
 fn told(alloc: Global, refusal: u8) -> Result<Done, NoMemory>
     ensures { TellsRefusal refusal result }
 {

@@ -77,7 +77,7 @@ impl<C: Carry> Job for OnErrand<C> {
 /// numbers, from 1 on, and each desk is to have its place, counted from 0, as its number.
 ///
 /// Where a thread can't be made, all that were made get the ends that they wait for, the driver does nothing, and the
-/// answer is the same as after want of memory.
+/// answer is the same as after running out of memory.
 pub fn run_crew<
     R: Threads + Wait + Sync,
     W: Work + Send + Drop,

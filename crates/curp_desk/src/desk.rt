@@ -6,7 +6,7 @@ use curp_base::NoMemory;
 use curp_journal::Arrived;
 use curp_msg::Core;
 use curp_ruled::{Parcel, Take};
-use curp_seat::{Chores, Gate, Kept};
+use curp_seat::{Chores, Observer, Kept};
 use std::alloc::Global;
 use std::sync::{Condvar, Mutex, Wait};
 
@@ -42,18 +42,18 @@ impl<N: Core + Drop> Desk<N> {
 
     /// Takes parcels and makes the steps that they ask for, each followed by those of the orders that are due then, until
     /// it has an end of each sender. The node ends with the end of the driver, who is the last of them: what comes after
-    /// that is dropped, as it is after want of memory.
-    pub fn work<R: Wait, G: Gate, C: Chores + Drop, L: Listener>(
+    /// that is dropped, as it is after running out of memory.
+    pub fn work<R: Wait, G: Observer, C: Chores + Drop, L: Listener>(
         &self,
         rt: &R,
-        gate: &G,
+        observer: &G,
         mut take: Take,
         mut chores: C,
         listener: &L,
     ) {
         let driver = take.posts().saturating_sub(1);
         let mut left = take.posts();
-        let mut works = self.begin(rt, gate, &mut chores, listener);
+        let mut works = self.begin(rt, observer, &mut chores, listener);
         for _ in rt.forever() {
             if left == 0 {
                 break;
@@ -66,7 +66,7 @@ impl<N: Core + Drop> Desk<N> {
                     self.end(rt);
                 }
             } else if works {
-                works = self.turn(rt, gate, &mut chores, listener, parcel);
+                works = self.turn(rt, observer, &mut chores, listener, parcel);
             }
         }
     }
@@ -95,36 +95,36 @@ impl<N: Core + Drop> Desk<N> {
     }
 
     /// Makes the steps that are due before the first parcel. False where there was no memory.
-    fn begin<R: Wait, G: Gate, C: Chores, L: Listener>(
+    fn begin<R: Wait, G: Observer, C: Chores, L: Listener>(
         &self,
         rt: &R,
-        gate: &G,
+        observer: &G,
         chores: &mut C,
         listener: &L,
     ) -> bool {
-        let made = self.give_due(rt, gate, chores, listener);
+        let made = self.give_due(rt, observer, chores, listener);
         goes_on(rt, listener, made)
     }
 
     /// Makes the step that a parcel asks for, and those that are due then. False where there was no memory.
-    fn turn<R: Wait, G: Gate, C: Chores, L: Listener>(
+    fn turn<R: Wait, G: Observer, C: Chores, L: Listener>(
         &self,
         rt: &R,
-        gate: &G,
+        observer: &G,
         chores: &mut C,
         listener: &L,
         parcel: Parcel,
     ) -> bool
         requires { parcel.carries ≢ None }
     {
-        let made = self.give_parcel(rt, gate, chores, listener, parcel);
+        let made = self.give_parcel(rt, observer, chores, listener, parcel);
         goes_on(rt, listener, made)
     }
 
-    fn give_parcel<R: Wait, G: Gate, C: Chores, L: Listener>(
+    fn give_parcel<R: Wait, G: Observer, C: Chores, L: Listener>(
         &self,
         rt: &R,
-        gate: &G,
+        observer: &G,
         chores: &mut C,
         listener: &L,
         parcel: Parcel,
@@ -132,14 +132,14 @@ impl<N: Core + Drop> Desk<N> {
         requires { parcel.carries ≢ None }
     {
         let input = parcel.open(self.alloc)?;
-        self.give(rt, gate, chores, listener, input)?;
-        self.give_due(rt, gate, chores, listener)
+        self.give(rt, observer, chores, listener, input)?;
+        self.give_due(rt, observer, chores, listener)
     }
 
-    fn give_due<R: Wait, G: Gate, C: Chores, L: Listener>(
+    fn give_due<R: Wait, G: Observer, C: Chores, L: Listener>(
         &self,
         rt: &R,
-        gate: &G,
+        observer: &G,
         chores: &mut C,
         listener: &L,
     ) -> Result<(), NoMemory> {
@@ -147,20 +147,20 @@ impl<N: Core + Drop> Desk<N> {
             let Some(order) = chores.due()? else {
                 break;
             };
-            self.give(rt, gate, chores, listener, Arrived::Local(order, 0))?;
+            self.give(rt, observer, chores, listener, Arrived::Local(order, 0))?;
         }
         Ok(())
     }
 
-    fn give<R: Wait, G: Gate, C: Chores, L: Listener>(
+    fn give<R: Wait, G: Observer, C: Chores, L: Listener>(
         &self,
         rt: &R,
-        gate: &G,
+        observer: &G,
         chores: &mut C,
         listener: &L,
         input: Arrived,
     ) -> Result<(), NoMemory> {
-        if let Some(step) = self.step(rt, gate, input)? {
+        if let Some(step) = self.step(rt, observer, input)? {
             chores.note(step.took, step.completed);
             listener.hear_step(rt, step);
         }
@@ -168,13 +168,13 @@ impl<N: Core + Drop> Desk<N> {
     }
 
     /// Makes a step under the lock. None where the node refused the input.
-    fn step<R: Wait, G: Gate>(
+    fn step<R: Wait, G: Observer>(
         &self,
         rt: &R,
-        gate: &G,
+        observer: &G,
         input: Arrived,
     ) -> Result<Option<MadeStep>, NoMemory> {
-        let made = self.inside.lock(rt).make(gate, input);
+        let made = self.inside.lock(rt).make(observer, input);
         self.changed.notify_all();
         made
     }
@@ -200,7 +200,7 @@ impl<N: Core + Drop> Desk<N> {
     }
 }
 
-/// Whether the node goes on after these steps. Want of memory is told.
+/// Whether the node goes on after these steps. Running out of memory is told.
 fn goes_on<R: Wait, L: Listener>(rt: &R, listener: &L, made: Result<(), NoMemory>) -> bool {
     let goes_on = made.is_ok();
     if !goes_on {

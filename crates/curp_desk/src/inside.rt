@@ -9,7 +9,7 @@ use curp_cmd::{NodeId, RequestId};
 use curp_journal::{Arrived, Named};
 use curp_msg::{Completed, Core};
 use curp_ruled::Parcel;
-use curp_seat::{Gate, Kept, Running, Took};
+use curp_seat::{Observer, Kept, Running, Took};
 use std::alloc::{AllocError, Global};
 use std::collections::VecDeque;
 use std::marker::Model;
@@ -89,11 +89,11 @@ impl<N: Core> Inside<N> {
         }
     }
 
-    /// Gives the node an input, and puts out what it sends. None where the node refused it. After want of memory no more
+    /// Gives the node an input, and puts out what it sends. None where the node refused it. After running out of memory no more
     /// steps are made.
-    pub(crate) fn make<G: Gate>(
+    pub(crate) fn make<G: Observer>(
         &mut self,
-        gate: &G,
+        observer: &G,
         arrived: Arrived,
     ) -> Result<Option<MadeStep>, NoMemory>
         ensures added { IfOk result (λ made. IfSome made (λ _. self.new.log ≡ with_item N.machine self.old.log arrived)) }
@@ -109,7 +109,7 @@ impl<N: Core> Inside<N> {
         }
         let took = Took::of(&arrived);
         self.short = true;
-        let made = self.running.make(gate, arrived)?;
+        let made = self.running.make(observer, arrived)?;
         if made.refused != 0 {
             self.short = false;
             return Ok(None);
@@ -168,7 +168,7 @@ fn id_of(completed: &Option<Completed>) -> Option<RequestId>
     }
 }
 
-/// Puts out what a step sent, behind what is there. After want of memory nothing is put out.
+/// Puts out what a step sent, behind what is there. After running out of memory nothing is put out.
 fn put_out(
     alloc: Global,
     number: u32,

@@ -112,8 +112,8 @@ split : (calls more : List Call) (seen : List ℕ) → seen_through seen (calls 
 split [] more seen = refl
 split (x ∷ calls) more seen = split calls more (seen_after seen x)
 
-pub front_shorter : (k : ℕ) (calls : List Call) (seen : List ℕ) → length (seen_through seen (take k calls)) ≤ length (seen_through seen calls)
-front_shorter k calls seen =
+pub prefix_shorter : (k : ℕ) (calls : List Call) (seen : List ℕ) → length (seen_through seen (take k calls)) ≤ length (seen_through seen calls)
+prefix_shorter k calls seen =
     omega (arith, grows (drop k calls) (seen_through seen (take k calls)), ap length (ap (seen_through seen) (sym (take-append-drop k calls)) ∙ split (take k calls) (drop k calls) seen))
 
 pub not_much : (old : List ℕ) (at : ℕ) (bytes : List ℕ) → at ≤ length old → length (over old at bytes) ≤ length old + length bytes

@@ -28,7 +28,7 @@ Narrows old new = (c : List ℕ) → new c → old c
 abbrev pub Only : List ℕ → (List ℕ → Type 0) → Type 0
 Only content outcomes = (c : List ℕ) → outcomes c → c ≡ content
 
--- as many bytes as there are from a place on, up to the buffer's length, stand at the buffer's front
+-- as many bytes as there are from a place on, up to the buffer's length, stand at the buffer's prefix
 abbrev pub GivesBytes : List ℕ → ℕ → Did → List ℕ → Type 0
 GivesBytes content at (did.Done n) buffer = (n ≡ min (length buffer) (length content - at)) × (take n buffer ≡ take n (drop at content))
 GivesBytes content at did.Failed buffer = ⊤

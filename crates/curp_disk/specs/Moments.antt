@@ -14,10 +14,10 @@ length-over old at bytes le =
 -- a write that was done is one of the outcomes of a torn one
 pub torn_over : (old : List ℕ) (at : ℕ) (bytes : List ℕ) → at ≤ length old → Torn at (length bytes) old (over old at bytes)
 torn_over old at bytes le =
-    let front : length (take at old) ≡ at = length-take-le at old le in
-    let both : length (take at old ++ bytes) ≡ at + length bytes = omega (arith, front, length-append (take at old) bytes) in
+    let prefix : length (take at old) ≡ at = length-take-le at old le in
+    let both : length (take at old ++ bytes) ≡ at + length bytes = omega (arith, prefix, length-append (take at old) bytes) in
     record {
-      before = ap (λ (l : List ℕ). take at l) (append_assoc (take at old) bytes (drop (at + length bytes) old)) ∙ take_at (take at old) (bytes ++ drop (at + length bytes) old) at front;
+      before = ap (λ (l : List ℕ). take at l) (append_assoc (take at old) bytes (drop (at + length bytes) old)) ∙ take_at (take at old) (bytes ++ drop (at + length bytes) old) at prefix;
       after = drop_at (take at old ++ bytes) (drop (at + length bytes) old) (at + length bytes) both;
       no_shorter = omega (arith, length-over old at bytes le);
       no_longer = omega (arith, length-over old at bytes le);

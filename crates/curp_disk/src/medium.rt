@@ -68,7 +68,7 @@ impl Medium {
         if at >= self.seen.len() as u64 {
             return 0;
         }
-        copy_front(&self.seen[at as usize..], buf)
+        copy_prefix(&self.seen[at as usize..], buf)
     }
 
     pub fn write_at(&mut self, at: u64, bytes: &[u8]) -> Result<(), NoMemory>
@@ -125,7 +125,7 @@ impl Medium {
     }
 
     /// The writes since the last sync are all kept, or all lost.
-    #[tactic(auto, using(crate::proofs::Playing::front_shorter))]
+    #[tactic(auto, using(crate::proofs::Playing::prefix_shorter))]
     pub fn crash(&mut self, kept: bool)
         ensures { self.new ≡ crashed kept self.old }
     {
@@ -141,8 +141,8 @@ impl Medium {
     }
 }
 
-/// Copies bytes to the front of a buffer, as many as there is room for, and says how many.
-fn copy_front(from: &[u8], buf: &mut [u8]) -> usize
+/// Copies bytes to the prefix of a buffer, as many as there is room for, and says how many.
+fn copy_prefix(from: &[u8], buf: &mut [u8]) -> usize
     ensures count { result ≡ min (length buf.new) (length from.now) }
     ensures bytes { take result buf.new ≡ take result from.now }
 {

@@ -41,15 +41,15 @@ same_framed b c x y xs ys has other same =
       sym (drop_at (batch_of b) (x ∷ xs) n refl) ∙ ap (λ (l : List ℕ). drop n l) o.tail ∙ drop_at (batch_of c) (y ∷ ys) n (sym o.long),
     )
 
--- ---- an open gate
+-- ---- an open commit
 
 -- ---- the bytes behind a length
 
-module _ (content : List ℕ) (gate len : ℕ) (f : FindsPiece (drop gate content) len) where
-  behind : drop (gate + 5) content ≡ f.rest
-  behind = sym (drop-drop 5 gate content) ∙ ap (λ (l : List ℕ). drop 5 l) f.is
+module _ (content : List ℕ) (commit len : ℕ) (f : FindsPiece (drop commit content) len) where
+  behind : drop (commit + 5) content ≡ f.rest
+  behind = sym (drop-drop 5 commit content) ∙ ap (λ (l : List ℕ). drop 5 l) f.is
 
-  pub record_found : (b : Batch) → IsEncoding b (take len (drop (gate + 5) content)) → FindsRecord (drop gate content) b (5 + len)
+  pub record_found : (b : Batch) → IsEncoding b (take len (drop (commit + 5) content)) → FindsRecord (drop commit content) b (5 + len)
   record_found b s =
       let encodes : batch_of b ≡ take len f.rest = sym s.is ∙ ap (λ (l : List ℕ). take len l) behind in
       let long : length (batch_of b) ≡ len = ap length encodes ∙ length-take-le len f.rest (omega (arith, f.within)) in
@@ -65,7 +65,7 @@ module _ (content : List ℕ) (gate len : ℕ) (f : FindsPiece (drop gate conten
         far = omega (arith, length-framed b, long);
       }
 
-  pub none_found : IsBatchIn (take len (drop (gate + 5) content)) None → FindsNone (drop gate content)
+  pub none_found : IsBatchIn (take len (drop (commit + 5) content)) None → FindsNone (drop commit content)
   none_found none = record {
     rest = to_be_bytes w32 len ++ f.rest;
     is = f.is;

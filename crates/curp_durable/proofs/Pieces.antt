@@ -28,46 +28,46 @@ pub encoded : (b : List Arrived) (bytes : List ℕ) → IsEncoding b bytes → l
 encoded b bytes s short = record { fits = s.fits; short = omega (arith, short, ap length s.is) }
 
 -- a record for which there is room
-pub record_is : (gate size_limit : ℕ) (b : List Arrived) (bytes piece : List ℕ) → IsEncoding b bytes → length bytes < 2 ^ 32 → gate + 6 + length bytes ≤ size_limit → piece ≡ behind_length bytes ++ 0 ∷ [] → IsRecord gate size_limit b piece
-record_is gate size_limit b bytes piece s short room is =
+pub record_is : (commit size_limit : ℕ) (b : List Arrived) (bytes piece : List ℕ) → IsEncoding b bytes → length bytes < 2 ^ 32 → commit + 6 + length bytes ≤ size_limit → piece ≡ behind_length bytes ++ 0 ∷ [] → IsRecord commit size_limit b piece
+record_is commit size_limit b bytes piece s short room is =
     let whole : piece ≡ record_of b = is ∙ ap (λ (l : List ℕ). behind_length l ++ 0 ∷ []) s.is in
     let long = ap length s.is in
     (encoded b bytes s short, whole, omega (arith, room, ap length whole, record-length b, long))
 
-pub full : (gate size_limit : ℕ) (b : List Arrived) (bytes : List ℕ) → IsEncoding b bytes → size_limit < gate + 6 + length bytes → size_limit < end_of gate b
-full gate size_limit b bytes s room = omega (arith, room, record-length b, ap length s.is)
+pub full : (commit size_limit : ℕ) (b : List Arrived) (bytes : List ℕ) → IsEncoding b bytes → size_limit < commit + 6 + length bytes → size_limit < end_of commit b
+full commit size_limit b bytes s room = omega (arith, room, record-length b, ap length s.is)
 
-module _ {N : Type 0} (machine : N → Input → Moved N) (s : Standing N) (gate size_limit : ℕ) (inputs : List Arrived) (answers : List Answered) (are : answers ≡ answers_of machine s inputs) where
+module _ {N : Type 0} (machine : N → Input → Moved N) (s : Standing N) (commit size_limit : ℕ) (inputs : List Arrived) (answers : List Answered) (are : answers ≡ answers_of machine s inputs) where
   made_are : made_inputs answers ≡ taken machine s inputs
   made_are = ap made_inputs are ∙ made_taken machine inputs s
 
   -- none was taken
-  pub decides_none : length (made_inputs answers) ≡ 0 → Decides machine s gate size_limit inputs [] answers
+  pub decides_none : length (made_inputs answers) ≡ 0 → Decides machine s commit size_limit inputs [] answers
   decides_none none = record { answers_are = are; piece_is = inl (none_there (taken machine s inputs) (ap length (sym made_are) ∙ none), refl) }
 
   pub none_made : taken machine s inputs ≡ [] → length (made_inputs answers) ≡ 0
   none_made none = ap length (made_are ∙ none)
 
   -- all were
-  pub decides_all : (piece : List ℕ) → length (made_inputs answers) ≡ length inputs → IsRecord gate size_limit inputs piece → Decides machine s gate size_limit inputs piece answers
+  pub decides_all : (piece : List ℕ) → length (made_inputs answers) ≡ length inputs → IsRecord commit size_limit inputs piece → Decides machine s commit size_limit inputs piece answers
   decides_all piece all is =
       let same : taken machine s inputs ≡ inputs = all_taken machine inputs s (ap length (sym made_are) ∙ all) in
-      record { answers_are = are; piece_is = inr (subst (λ (b : List Arrived). IsRecord gate size_limit b piece) (sym same) is) }
+      record { answers_are = are; piece_is = inr (subst (λ (b : List Arrived). IsRecord commit size_limit b piece) (sym same) is) }
 
-  pub decides_some : (piece : List ℕ) → IsRecord gate size_limit (made_inputs answers) piece → Decides machine s gate size_limit inputs piece answers
-  decides_some piece is = record { answers_are = are; piece_is = inr (subst (λ (b : List Arrived). IsRecord gate size_limit b piece) made_are is) }
+  pub decides_some : (piece : List ℕ) → IsRecord commit size_limit (made_inputs answers) piece → Decides machine s commit size_limit inputs piece answers
+  decides_some piece is = record { answers_are = are; piece_is = inr (subst (λ (b : List Arrived). IsRecord commit size_limit b piece) made_are is) }
 
 pub true_not : true ≡ false → ⊥
 true_not e = absurd cc
 
 -- there is a record
-pub piece_there : (gate size_limit : ℕ) (b : List Arrived) (piece : List ℕ) (n : ℕ) → IsPiece gate size_limit b piece → n ≡ length piece → (n == 0) ≡ false → IsRecord gate size_limit b piece
-piece_there gate size_limit b piece n (inl none) is e =
+pub piece_there : (commit size_limit : ℕ) (b : List Arrived) (piece : List ℕ) (n : ℕ) → IsPiece commit size_limit b piece → n ≡ length piece → (n == 0) ≡ false → IsRecord commit size_limit b piece
+piece_there commit size_limit b piece n (inl none) is e =
     let zero : n ≡ 0 = is ∙ ap length none.1 in
     absurd (true_not (subst (λ (k : ℕ). (k == 0) ≡ false) zero e))
-piece_there gate size_limit b piece n (inr some) is e = some
+piece_there commit size_limit b piece n (inr some) is e = some
 
 -- there is none
-pub piece_none : (gate size_limit : ℕ) (b : List Arrived) (piece : List ℕ) (n : ℕ) → IsPiece gate size_limit b piece → n ≡ length piece → (n == 0) ≡ true → b ≡ []
-piece_none gate size_limit b piece n (inl none) is e = none.0
-piece_none gate size_limit b piece n (inr some) is e = absurd (omega (arith, eqb-true n 0 e, is, ap length some.1, record-length b))
+pub piece_none : (commit size_limit : ℕ) (b : List Arrived) (piece : List ℕ) (n : ℕ) → IsPiece commit size_limit b piece → n ≡ length piece → (n == 0) ≡ true → b ≡ []
+piece_none commit size_limit b piece n (inl none) is e = none.0
+piece_none commit size_limit b piece n (inr some) is e = absurd (omega (arith, eqb-true n 0 e, is, ap length some.1, record-length b))

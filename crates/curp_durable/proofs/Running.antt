@@ -6,7 +6,7 @@ use Rattle.curp_disk.specs.declared.disk.Did.TheVariants as did
 use Rattle.curp_disk.specs.declared.medium.Call.{Call}
 use Rattle.curp_journal.specs.declared.arrived.Arrived.{Arrived}
 use Rattle.curp_durable.specs.Answering.{Declines, record_of}
-use Rattle.curp_durable.specs.Running.{AllMade, MadeUntil, RanUntil, RunsCalls, appending, calls_for, gate_behind}
+use Rattle.curp_durable.specs.Running.{AllMade, MadeUntil, RanUntil, RunsCalls, appending, calls_for, commit_behind}
 use Rattle.curp_durable.specs.declared.error.DurableError.{DurableError}
 use Rattle.curp_durable.specs.declared.error.DurableError.TheVariants as durable
 use Rattle.curp_durable.specs.declared.writing.Kept.{Kept}
@@ -31,25 +31,25 @@ module _ {D : Type 0} (wrote : D → ℕ → List ℕ → Did → D → Type 0) 
 -- ---- those of a batch
 
 -- there is a record of what is taken, so something is
-pub calls_are : (gate : ℕ) (b : List Arrived) (piece : List ℕ) → piece ≡ record_of b → (b ≡ [] → piece ≡ []) → appending gate piece ≡ calls_for gate b
-calls_are gate [] piece is nothing = absurd (omega (arith, ap length is, record-length [], ap length (nothing refl)))
-calls_are gate (a ∷ more) piece is nothing = ap (appending gate) is
+pub calls_are : (commit : ℕ) (b : List Arrived) (piece : List ℕ) → piece ≡ record_of b → (b ≡ [] → piece ≡ []) → appending commit piece ≡ calls_for commit b
+calls_are commit [] piece is nothing = absurd (omega (arith, ap length is, record-length [], ap length (nothing refl)))
+calls_are commit (a ∷ more) piece is nothing = ap (appending commit) is
 
-pub gate_is : (gate : ℕ) (b : List Arrived) (piece : List ℕ) → piece ≡ record_of b → (b ≡ [] → piece ≡ []) → gate + length piece ≡ gate_behind gate b
-gate_is gate [] piece is nothing = absurd (omega (arith, ap length is, record-length [], ap length (nothing refl)))
-gate_is gate (a ∷ more) piece is nothing = ap (λ (l : List ℕ). gate + length l) is
+pub commit_is : (commit : ℕ) (b : List Arrived) (piece : List ℕ) → piece ≡ record_of b → (b ≡ [] → piece ≡ []) → commit + length piece ≡ commit_behind commit b
+commit_is commit [] piece is nothing = absurd (omega (arith, ap length is, record-length [], ap length (nothing refl)))
+commit_is commit (a ∷ more) piece is nothing = ap (λ (l : List ℕ). commit + length l) is
 
 -- nothing is taken
-pub no_calls : {D : Type 0} (wrote : D → ℕ → List ℕ → Did → D → Type 0) (synced : D → Did → D → Type 0) (gate : ℕ) (b : List Arrived) (old : D) → b ≡ [] → AllMade wrote synced (calls_for gate b) old old
-no_calls {D} wrote synced gate b old none = subst (λ (l : List Arrived). AllMade wrote synced (calls_for gate l) old old) (sym none) refl
+pub no_calls : {D : Type 0} (wrote : D → ℕ → List ℕ → Did → D → Type 0) (synced : D → Did → D → Type 0) (commit : ℕ) (b : List Arrived) (old : D) → b ≡ [] → AllMade wrote synced (calls_for commit b) old old
+no_calls {D} wrote synced commit b old none = subst (λ (l : List Arrived). AllMade wrote synced (calls_for commit l) old old) (sym none) refl
 
-pub same_gate : (gate : ℕ) (b : List Arrived) → b ≡ [] → gate ≡ gate_behind gate b
-same_gate gate b none = ap (gate_behind gate) (sym none)
+pub same_commit : (commit : ℕ) (b : List Arrived) → b ≡ [] → commit ≡ commit_behind commit b
+same_commit commit b none = ap (commit_behind commit) (sym none)
 
 -- what is refused before anything is done
-pub none_ran : {D : Type 0} (wrote : D → ℕ → List ℕ → Did → D → Type 0) (synced : D → Did → D → Type 0) (gate size_limit : ℕ) (b inputs : List Arrived) (old : D) (why : DurableError) → Declines gate size_limit inputs why → RanUntil wrote synced gate b old old why
-none_ran wrote synced gate size_limit b inputs old durable.DiskFault declined = absurd declined
-none_ran wrote synced gate size_limit b inputs old durable.NoMemory declined = inl refl
-none_ran wrote synced gate size_limit b inputs old durable.NoEncoding declined = refl
-none_ran wrote synced gate size_limit b inputs old durable.Full declined = refl
-none_ran wrote synced gate size_limit b inputs old durable.Spent declined = refl
+pub none_ran : {D : Type 0} (wrote : D → ℕ → List ℕ → Did → D → Type 0) (synced : D → Did → D → Type 0) (commit size_limit : ℕ) (b inputs : List Arrived) (old : D) (why : DurableError) → Declines commit size_limit inputs why → RanUntil wrote synced commit b old old why
+none_ran wrote synced commit size_limit b inputs old durable.DiskFault declined = absurd declined
+none_ran wrote synced commit size_limit b inputs old durable.NoMemory declined = inl refl
+none_ran wrote synced commit size_limit b inputs old durable.NoEncoding declined = refl
+none_ran wrote synced commit size_limit b inputs old durable.Full declined = refl
+none_ran wrote synced commit size_limit b inputs old durable.Spent declined = refl

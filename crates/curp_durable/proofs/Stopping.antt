@@ -20,9 +20,9 @@ use Rattle.curp_durable.specs.Answering.{record_of}
 use Rattle.curp_durable.specs.Journal.{Batch, HasEncoding, HoldsUpTo, IsSettled, ReadsJournal}
 use Rattle.curp_durable.specs.Running.{MadeUntil, RanCall, appending}
 use Rattle.curp_durable.specs.Standing.{Standing}
-use Rattle.curp_durable.specs.Stopping.{IsStopped, StopLeaves, StopSynced, StopWrote, kept_gate, kept_inputs, stop_seen}
-use Rattle.curp_durable.proofs.Gates.{prefix_kept}
-use Rattle.curp_durable.proofs.Reading.{done, gate_within, shut_reads}
+use Rattle.curp_durable.specs.Stopping.{IsStopped, StopLeaves, StopSynced, StopWrote, kept_commit, kept_inputs, stop_seen}
+use Rattle.curp_durable.proofs.Commits.{prefix_kept}
+use Rattle.curp_durable.proofs.Reading.{done, commit_within, shut_reads}
 use Rattle.curp_durable.proofs.Standings.{all-push}
 
 -- ---- which calls were made
@@ -69,7 +69,7 @@ kept_behind : (first second : List Call) (seen kept : List ℕ) → kept_through
 kept_behind [] second seen kept = refl
 kept_behind (c ∷ first) second seen kept = kept_behind first second (seen_after seen c) (kept_after seen kept c)
 
-module _ (p : Played) (gate : ℕ) (title : List ℕ) (inputs : List Arrived) (batches : List Batch) (a : Arrived) (more : List Arrived) (all : all_of batches ≡ inputs) (reads : ReadsJournal (seen_of p) title batches gate) (durable : Only (seen_of p) (LeftNow p)) (has : HasEncoding (a ∷ more)) where
+module _ (p : Played) (commit : ℕ) (title : List ℕ) (inputs : List Arrived) (batches : List Batch) (a : Arrived) (more : List Arrived) (all : all_of batches ≡ inputs) (reads : ReadsJournal (seen_of p) title batches commit) (durable : Only (seen_of p) (LeftNow p)) (has : HasEncoding (a ∷ more)) where
   abbrev now : List ℕ
   now = seen_of p
 
@@ -80,64 +80,64 @@ module _ (p : Played) (gate : ℕ) (title : List ℕ) (inputs : List Arrived) (b
   piece = record_of b
 
   abbrev behind : List ℕ
-  behind = over now (gate + 1) piece
+  behind = over now (commit + 1) piece
 
   abbrev first_calls : ℕ → Played
-  first_calls n = with p (take n (appending gate piece))
+  first_calls n = with p (take n (appending commit piece))
 
-  within : gate < length now
-  within = gate_within now title batches gate reads
+  within : commit < length now
+  within = commit_within now title batches commit reads
 
-  place : min (gate + 1) (length now) ≡ gate + 1
+  place : min (commit + 1) (length now) ≡ commit + 1
   place = omega (arith, within)
 
-  place_of_gate : min gate (length behind) ≡ gate
-  place_of_gate = omega (arith, within, length-over now (gate + 1) piece (omega (arith, within)))
+  place_of_commit : min commit (length behind) ≡ commit
+  place_of_commit = omega (arith, within, length-over now (commit + 1) piece (omega (arith, within)))
 
   -- what was kept before
   was_kept : kept_of p ≡ now
   was_kept = durable (kept_of p) (kept_now p)
 
-  written : over now (min (gate + 1) (length now)) piece ≡ behind
+  written : over now (min (commit + 1) (length now)) piece ≡ behind
   written = ap (λ (n : ℕ). over now n piece) place
 
-  holds_before : (c : List ℕ) → c ≡ now → HoldsUpTo c title inputs gate
-  holds_before c is = record { batches = batches; all = all; reads = subst (λ (l : List ℕ). ReadsJournal l title batches gate) (sym is) reads }
+  holds_before : (c : List ℕ) → c ≡ now → HoldsUpTo c title inputs commit
+  holds_before c is = record { batches = batches; all = all; reads = subst (λ (l : List ℕ). ReadsJournal l title batches commit) (sym is) reads }
 
-  holds_shut : (c : List ℕ) → c ≡ behind → HoldsUpTo c title inputs gate
+  holds_shut : (c : List ℕ) → c ≡ behind → HoldsUpTo c title inputs commit
   holds_shut c is = record {
     batches = batches;
     all = all;
-    reads = subst (λ (l : List ℕ). ReadsJournal l title batches gate) (sym is) (shut_reads now title batches gate reads behind (prefix_kept now gate piece within));
+    reads = subst (λ (l : List ℕ). ReadsJournal l title batches commit) (sym is) (shut_reads now title batches commit reads behind (prefix_kept now commit piece within));
   }
 
-  holds_open : (c : List ℕ) → c ≡ over behind gate (1 ∷ []) → HoldsUpTo c title (inputs ++ b) (gate + length piece)
+  holds_open : (c : List ℕ) → c ≡ over behind commit (1 ∷ []) → HoldsUpTo c title (inputs ++ b) (commit + length piece)
   holds_open c is = record {
     batches = batches ++ b ∷ [];
     all = all-push batches b ∙ ap (λ (l : List Arrived). l ++ b) all;
-    reads = done now title batches gate reads b has c is;
+    reads = done now title batches commit reads b has c is;
   }
 
-  opened : over (over now (min (gate + 1) (length now)) piece) (min gate (length (over now (min (gate + 1) (length now)) piece))) (1 ∷ []) ≡ over behind gate (1 ∷ [])
-  opened = ap (λ (l : List ℕ). over l (min gate (length l)) (1 ∷ [])) written ∙ ap (λ (n : ℕ). over behind n (1 ∷ [])) place_of_gate
+  opened : over (over now (min (commit + 1) (length now)) piece) (min commit (length (over now (min (commit + 1) (length now)) piece))) (1 ∷ []) ≡ over behind commit (1 ∷ [])
+  opened = ap (λ (l : List ℕ). over l (min commit (length l)) (1 ∷ [])) written ∙ ap (λ (n : ℕ). over behind n (1 ∷ [])) place_of_commit
 
-  left_at : (k : ℕ) → 1 ≤ k → k ≤ 4 → (unsynced : Bool) → HoldsUpTo (seen_of (crashed unsynced (first_calls (k - 1)))) title (kept_inputs inputs b k unsynced) (kept_gate gate b k unsynced)
+  left_at : (k : ℕ) → 1 ≤ k → k ≤ 4 → (unsynced : Bool) → HoldsUpTo (seen_of (crashed unsynced (first_calls (k - 1)))) title (kept_inputs inputs b k unsynced) (kept_commit commit b k unsynced)
   left_at zero first last unsynced = absurd (omega (arith, first))
   left_at (suc zero) first last true = holds_before (seen_of (first_calls 0)) (seen_behind p.calls [] p.first)
   left_at (suc zero) first last false = holds_before (kept_of (first_calls 0)) (kept_behind p.calls [] p.first p.first ∙ was_kept)
-  left_at (suc (suc zero)) first last true = holds_shut (seen_of (first_calls 1)) (seen_behind p.calls (take 1 (appending gate piece)) p.first ∙ written)
-  left_at (suc (suc zero)) first last false = holds_before (kept_of (first_calls 1)) (kept_behind p.calls (take 1 (appending gate piece)) p.first p.first ∙ was_kept)
-  left_at (suc (suc (suc zero))) first last true = holds_shut (seen_of (first_calls 2)) (seen_behind p.calls (take 2 (appending gate piece)) p.first ∙ written)
-  left_at (suc (suc (suc zero))) first last false = holds_shut (kept_of (first_calls 2)) (kept_behind p.calls (take 2 (appending gate piece)) p.first p.first ∙ written)
-  left_at (suc (suc (suc (suc zero)))) first last true = holds_open (seen_of (first_calls 3)) (seen_behind p.calls (take 3 (appending gate piece)) p.first ∙ opened)
-  left_at (suc (suc (suc (suc zero)))) first last false = holds_shut (kept_of (first_calls 3)) (kept_behind p.calls (take 3 (appending gate piece)) p.first p.first ∙ written)
+  left_at (suc (suc zero)) first last true = holds_shut (seen_of (first_calls 1)) (seen_behind p.calls (take 1 (appending commit piece)) p.first ∙ written)
+  left_at (suc (suc zero)) first last false = holds_before (kept_of (first_calls 1)) (kept_behind p.calls (take 1 (appending commit piece)) p.first p.first ∙ was_kept)
+  left_at (suc (suc (suc zero))) first last true = holds_shut (seen_of (first_calls 2)) (seen_behind p.calls (take 2 (appending commit piece)) p.first ∙ written)
+  left_at (suc (suc (suc zero))) first last false = holds_shut (kept_of (first_calls 2)) (kept_behind p.calls (take 2 (appending commit piece)) p.first p.first ∙ written)
+  left_at (suc (suc (suc (suc zero)))) first last true = holds_open (seen_of (first_calls 3)) (seen_behind p.calls (take 3 (appending commit piece)) p.first ∙ opened)
+  left_at (suc (suc (suc (suc zero)))) first last false = holds_shut (kept_of (first_calls 3)) (kept_behind p.calls (take 3 (appending commit piece)) p.first p.first ∙ written)
   left_at (suc (suc (suc (suc (suc k))))) first last unsynced = absurd (omega (arith, last))
 
 -- what is left of a journal whose disk stopped
-pub stopped_holds : {N : Type 0} (machine : N → Input → Moved N) (old new : StopParts) (stand : Standing N) (gate k : ℕ) (title : List ℕ) (opening : N) (inputs b : List Arrived) (unsynced : Bool) → IsSettled machine stop_seen StopLeaves old stand gate title opening inputs → IsStopped old new gate k b
-    → HoldsUpTo (seen_of (crashed unsynced new.played)) title (kept_inputs inputs b k unsynced) (kept_gate gate b k unsynced)
-stopped_holds machine old new stand gate k title opening inputs [] unsynced s stopped = absurd stopped.ran
-stopped_holds machine old new stand gate k title opening inputs (a ∷ more) unsynced s stopped =
-    let made = made_before (appending gate (record_of (a ∷ more))) old new k stopped.armed stopped.first stopped.ran in
-    subst (λ (p : Played). HoldsUpTo (seen_of (crashed unsynced p)) title (kept_inputs inputs (a ∷ more) k unsynced) (kept_gate gate (a ∷ more) k unsynced)) (sym made)
-    (left_at old.played gate title inputs s.batches a more s.all s.reads s.durable stopped.encodes k stopped.first stopped.last unsynced)
+pub stopped_holds : {N : Type 0} (machine : N → Input → Moved N) (old new : StopParts) (stand : Standing N) (commit k : ℕ) (title : List ℕ) (opening : N) (inputs b : List Arrived) (unsynced : Bool) → IsSettled machine stop_seen StopLeaves old stand commit title opening inputs → IsStopped old new commit k b
+    → HoldsUpTo (seen_of (crashed unsynced new.played)) title (kept_inputs inputs b k unsynced) (kept_commit commit b k unsynced)
+stopped_holds machine old new stand commit k title opening inputs [] unsynced s stopped = absurd stopped.ran
+stopped_holds machine old new stand commit k title opening inputs (a ∷ more) unsynced s stopped =
+    let made = made_before (appending commit (record_of (a ∷ more))) old new k stopped.armed stopped.first stopped.ran in
+    subst (λ (p : Played). HoldsUpTo (seen_of (crashed unsynced p)) title (kept_inputs inputs (a ∷ more) k unsynced) (kept_commit commit (a ∷ more) k unsynced)) (sym made)
+    (left_at old.played commit title inputs s.batches a more s.all s.reads s.durable stopped.encodes k stopped.first stopped.last unsynced)

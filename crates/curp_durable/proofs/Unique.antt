@@ -51,8 +51,8 @@ module _ (content title : List ℕ) where
   pub reads_once : (bs cs : List Batch) (g h : ℕ) → ReadsJournal content title bs g → ReadsJournal content title cs h → bs ≡ cs
   reads_once bs cs g h r q = one_journal bs cs r.byte q.byte r.rest q.rest r.encoded q.encoded (inl r.shut) (inl q.shut) r.is q.is
 
-  pub one_gate : (bs cs : List Batch) (g h : ℕ) → ReadsJournal content title bs g → ReadsJournal content title cs h → g ≡ h
-  one_gate bs cs g h r q = sym r.place ∙ ap (λ (k : List Batch). length (title ++ records k)) (reads_once bs cs g h r q) ∙ q.place
+  pub one_commit : (bs cs : List Batch) (g h : ℕ) → ReadsJournal content title bs g → ReadsJournal content title cs h → g ≡ h
+  one_commit bs cs g h r q = sym r.place ∙ ap (λ (k : List Batch). length (title ++ records k)) (reads_once bs cs g h r q) ∙ q.place
 
   -- the byte behind the prefix is the same in both
   next_byte : (prefix : List ℕ) (x y : ℕ) (xs ys : List ℕ) → content ≡ prefix ++ x ∷ xs → content ≡ prefix ++ y ∷ ys → x ≡ y
@@ -75,8 +75,8 @@ module _ (content title : List ℕ) where
 
   -- ---- what an opening tells
 
-  pub exists : {N : Type 0} (machine : N → Input → Moved N) (opening : N) (gate : ℕ) (stand : Standing N) → IsOpened machine content title opening gate stand → Exists content title
-  exists machine opening gate stand o = (λ none. formatted o.batches o.reads.byte o.reads.rest o.reads.is none, λ place d. not_both o.batches gate place o.reads d)
+  pub exists : {N : Type 0} (machine : N → Input → Moved N) (opening : N) (commit : ℕ) (stand : Standing N) → IsOpened machine content title opening commit stand → Exists content title
+  exists machine opening commit stand o = (λ none. formatted o.batches o.reads.byte o.reads.rest o.reads.is none, λ place d. not_both o.batches commit place o.reads d)
 
   pub only_cause : (e : OpenError) → OpensNot content title e → IsOnlyCause content title e
   only_cause opened.NotFormatted none = λ place d. formatted d.batches 1 d.rest d.is none
@@ -85,19 +85,19 @@ module _ (content title : List ℕ) where
   only_cause opened.NoMemory why = tt
 
   pub one_list : (inputs others : List Arrived) → HoldsJournal content title inputs → HoldsJournal content title others → inputs ≡ others
-  one_list inputs others h k = sym h.all ∙ ap all_of (reads_once h.batches k.batches h.gate k.gate h.reads k.reads) ∙ k.all
+  one_list inputs others h k = sym h.all ∙ ap all_of (reads_once h.batches k.batches h.commit k.commit h.reads k.reads) ∙ k.all
 
   pub whole : (inputs : List Arrived) → HoldsJournal content title inputs → Exists content title
-  whole inputs h = (λ none. formatted h.batches h.reads.byte h.reads.rest h.reads.is none, λ place d. not_both h.batches h.gate place h.reads d)
+  whole inputs h = (λ none. formatted h.batches h.reads.byte h.reads.rest h.reads.is none, λ place d. not_both h.batches h.commit place h.reads d)
 
   -- a journal is opened as it is, and the node gets its inputs
-  pub opened_so : {N : Type 0} (machine : N → Input → Moved N) (opening : N) (gate : ℕ) (stand : Standing N) (inputs : List Arrived) (o : IsOpened machine content title opening gate stand) → HoldsJournal content title inputs
+  pub opened_so : {N : Type 0} (machine : N → Input → Moved N) (opening : N) (commit : ℕ) (stand : Standing N) (inputs : List Arrived) (o : IsOpened machine content title opening commit stand) → HoldsJournal content title inputs
       → (all_of o.batches ≡ inputs)
-  opened_so machine opening gate stand inputs o h = ap all_of (reads_once o.batches h.batches gate h.gate o.reads h.reads) ∙ h.all
+  opened_so machine opening commit stand inputs o h = ap all_of (reads_once o.batches h.batches commit h.commit o.reads h.reads) ∙ h.all
 
   -- a journal that is there is refused for no cause that says something of the bytes
   pub of_the_moment : (e : OpenError) (inputs : List Arrived) → OpensNot content title e → HoldsJournal content title inputs → IsOfTheMoment e
   of_the_moment opened.NotFormatted inputs none h = formatted h.batches h.reads.byte h.reads.rest h.reads.is none
-  of_the_moment (opened.Damaged place) inputs d h = not_both h.batches h.gate place h.reads d
+  of_the_moment (opened.Damaged place) inputs d h = not_both h.batches h.commit place h.reads d
   of_the_moment opened.DiskFault inputs why h = tt
   of_the_moment opened.NoMemory inputs why h = tt

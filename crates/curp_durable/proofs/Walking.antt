@@ -37,18 +37,18 @@ module _ (content title : List ℕ) where
     encoded = tt;
   }
 
-  module _ (gate : ℕ) (batches : List Batch) (w : Walked content title gate batches) where
+  module _ (commit : ℕ) (batches : List Batch) (w : Walked content title commit batches) where
     abbrev prefix : List ℕ
     prefix = title ++ records batches
 
-    at_gate : drop gate content ≡ w.byte ∷ w.rest
-    at_gate = ap (λ (l : List ℕ). drop gate l) w.is ∙ drop_at prefix (w.byte ∷ w.rest) gate w.place
+    at_commit : drop commit content ≡ w.byte ∷ w.rest
+    at_commit = ap (λ (l : List ℕ). drop commit l) w.is ∙ drop_at prefix (w.byte ∷ w.rest) commit w.place
 
-    -- with what was found at the gate
-    seen_so : (bytes : List ℕ) → drop gate content ≡ bytes → content ≡ prefix ++ bytes
-    seen_so bytes is = w.is ∙ ap (λ (l : List ℕ). prefix ++ l) (sym at_gate ∙ is)
+    -- with what was found at the commit
+    seen_so : (bytes : List ℕ) → drop commit content ≡ bytes → content ≡ prefix ++ bytes
+    seen_so bytes is = w.is ∙ ap (λ (l : List ℕ). prefix ++ l) (sym at_commit ∙ is)
 
-    walk_on : (b : Batch) (step : ℕ) → FindsRecord (drop gate content) b step → Walked content title (gate + step) (batches ++ b ∷ [])
+    walk_on : (b : Batch) (step : ℕ) → FindsRecord (drop commit content) b step → Walked content title (commit + step) (batches ++ b ∷ [])
     walk_on b step f = record {
       byte = f.byte;
       rest = f.rest;
@@ -66,11 +66,11 @@ module _ {N : Type 0} (machine : N → Input → Moved N) (content title : List 
   pub by_starts : StartsJournal content title → WalkedBy machine content title opening (length title) (begun opening)
   by_starts s = record { batches = []; walked = walk_starts content title s; stand_is = refl }
 
-  module _ (gate : ℕ) (stand : Standing N) (w : WalkedBy machine content title opening gate stand) where
-    pub by_on : (b : Batch) (step : ℕ) (next : Standing N) → FindsRecord (drop gate content) b step → next ≡ after machine stand b → WalkedBy machine content title opening (gate + step) next
+  module _ (commit : ℕ) (stand : Standing N) (w : WalkedBy machine content title opening commit stand) where
+    pub by_on : (b : Batch) (step : ℕ) (next : Standing N) → FindsRecord (drop commit content) b step → next ≡ after machine stand b → WalkedBy machine content title opening (commit + step) next
     by_on b step next f is = record {
       batches = w.batches ++ b ∷ [];
-      walked = walk_on content title gate w.batches w.walked b step f;
+      walked = walk_on content title commit w.batches w.walked b step f;
       stand_is = is ∙ ap (λ (s : Standing N). after machine s b) w.stand_is ∙ sym (after-append machine (all_of w.batches) b (begun opening)) ∙ ap (after machine (begun opening)) (sym (all-push w.batches b));
     }
 
@@ -80,9 +80,9 @@ module _ (content title : List ℕ) where
   pub over_starts : StartsJournal content title → WalkedOver content title (length title) []
   over_starts s = record { batches = []; walked = walk_starts content title s; all = refl }
 
-  pub over_on : (gate : ℕ) (inputs : List Arrived) (w : WalkedOver content title gate inputs) (b : Batch) (step : ℕ) → FindsRecord (drop gate content) b step → WalkedOver content title (gate + step) (inputs ++ b)
-  over_on gate inputs w b step f = record {
+  pub over_on : (commit : ℕ) (inputs : List Arrived) (w : WalkedOver content title commit inputs) (b : Batch) (step : ℕ) → FindsRecord (drop commit content) b step → WalkedOver content title (commit + step) (inputs ++ b)
+  over_on commit inputs w b step f = record {
     batches = w.batches ++ b ∷ [];
-    walked = walk_on content title gate w.batches w.walked b step f;
+    walked = walk_on content title commit w.batches w.walked b step f;
     all = all-push w.batches b ∙ ap (λ (l : List Arrived). l ++ b) w.all;
   }

@@ -1,21 +1,21 @@
--- What a crash leaves while a record is written behind a gate and the gate is opened.
+-- What a crash leaves while a record is written behind a commit and the commit is opened.
 use Rattle.std.specs.Prelude.{◌≡◌, ◌⊎◌, ℕ, ◌+◌, List, ◌∷◌, ◌++◌, take, drop}
 use Rattle.curp_disk.specs.Disk.{LeavesOnly, Narrows}
 
--- all up to the gate stands as before, whatever stands behind it
+-- all up to the commit stands as before, whatever stands behind it
 abbrev pub IsShut : List ℕ → ℕ → List ℕ → Type 0
-IsShut old gate c = take (gate + 1) c ≡ take (gate + 1) old
+IsShut old commit c = take (commit + 1) c ≡ take (commit + 1) old
 
--- all before the gate stands as before, and the record behind it; the gate is any byte
-pub record IsStaged (old : List ℕ) (gate : ℕ) (piece c : List ℕ) : Type 0 where
-  pub prefix : take gate c ≡ take gate old
+-- all before the commit stands as before, and the record behind it; the commit is any byte
+pub record IsStaged (old : List ℕ) (commit : ℕ) (piece c : List ℕ) : Type 0 where
+  pub prefix : take commit c ≡ take commit old
   pub any : ℕ
   pub tail : List ℕ
-  pub back : drop gate c ≡ any ∷ (piece ++ tail)
+  pub back : drop commit c ≡ any ∷ (piece ++ tail)
 
 -- one or the other
 abbrev pub ShutOrStaged : List ℕ → ℕ → List ℕ → List ℕ → Type 0
-ShutOrStaged old gate piece c = IsShut old gate c ⊎ IsStaged old gate piece c
+ShutOrStaged old commit piece c = IsShut old commit c ⊎ IsStaged old commit piece c
 
 -- The disk was only read and synced: it reads as before, and a crash at any moment since left what it might have left
 pub record Quiet {D : Type 0} (seen : D → List ℕ) (may_leave : D → List ℕ → Type 0) (moment : D → ℕ) (left_since : D → ℕ → List ℕ → Type 0) (old new : D) : Type 0 where

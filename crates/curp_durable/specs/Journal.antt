@@ -25,43 +25,43 @@ behind_length bytes = to_be_bytes w32 (length bytes) ++ bytes
 abbrev pub framed : Batch → List ℕ
 framed b = behind_length (batch_of b)
 
--- records of these batches, each behind its open gate
+-- records of these batches, each behind its open commit
 abbrev pub records : List Batch → List ℕ
 records [] = []
 records (b ∷ bs) = 1 ∷ (framed b ++ records bs)
 
--- A journal of these batches: they stand behind the title, each behind its open gate, and behind them stands a gate that
--- isn't open, at this place. What stands behind that gate says nothing.
-pub record ReadsJournal (content title : List ℕ) (batches : List Batch) (gate : ℕ) : Type 0 where
+-- A journal of these batches: they stand behind the title, each behind its open commit, and behind them stands a commit that
+-- isn't open, at this place. What stands behind that commit says nothing.
+pub record ReadsJournal (content title : List ℕ) (batches : List Batch) (commit : ℕ) : Type 0 where
   pub byte : ℕ
   pub rest : List ℕ
   pub is : content ≡ (title ++ records batches) ++ byte ∷ rest
-  pub place : length (title ++ records batches) ≡ gate
+  pub place : length (title ++ records batches) ≡ commit
   pub shut : byte ≢ 1
   pub encoded : Each HasEncoding batches
 
 -- A journal of these inputs, however they came in batches
 pub record HoldsJournal (content title : List ℕ) (inputs : List Arrived) : Type 0 where
   pub batches : List Batch
-  pub gate : ℕ
+  pub commit : ℕ
   pub all : all_of batches ≡ inputs
-  pub reads : ReadsJournal content title batches gate
+  pub reads : ReadsJournal content title batches commit
 
--- the same, whose last gate stands at this place
-pub record HoldsUpTo (content title : List ℕ) (inputs : List Arrived) (gate : ℕ) : Type 0 where
+-- the same, whose last commit stands at this place
+pub record HoldsUpTo (content title : List ℕ) (inputs : List Arrived) (commit : ℕ) : Type 0 where
   pub batches : List Batch
   pub all : all_of batches ≡ inputs
-  pub reads : ReadsJournal content title batches gate
+  pub reads : ReadsJournal content title batches commit
 
 -- the journal from before some inputs, with all of them or with none
 abbrev pub IsBeforeOrAfter : List ℕ → List Arrived → List Arrived → List ℕ → Type 0
 IsBeforeOrAfter title inputs more content = HoldsJournal content title inputs ⊎ HoldsJournal content title (inputs ++ more)
 
--- no title is there, with a gate behind it
+-- no title is there, with a commit behind it
 abbrev pub IsNotFormatted : List ℕ → List ℕ → Type 0
 IsNotFormatted content title = (byte : ℕ) (rest : List ℕ) → content ≢ title ++ byte ∷ rest
 
--- An open gate at this place isn't followed by a record of a batch
+-- An open commit at this place isn't followed by a record of a batch
 pub record IsDamaged (content title : List ℕ) (place : ℕ) : Type 0 where
   pub batches : List Batch
   pub rest : List ℕ
@@ -70,15 +70,15 @@ pub record IsDamaged (content title : List ℕ) (place : ℕ) : Type 0 where
   pub encoded : Each HasEncoding batches
   pub stuck : (b : Batch) (byte : ℕ) (tail : List ℕ) → HasEncoding b → rest ≢ framed b ++ byte ∷ tail
 
--- The disk has the journal of these inputs, all of it kept; its last gate is here, and they led the node from its opening
+-- The disk has the journal of these inputs, all of it kept; its last commit is here, and they led the node from its opening
 -- to where it stands
-pub record IsSettled {N D : Type 0} (machine : N → Input → Moved N) (seen : D → List ℕ) (may_leave : D → List ℕ → Type 0) (disk : D) (stand : Standing N) (gate : ℕ) (title : List ℕ) (opening : N) (inputs : List Arrived) : Type 0 where
+pub record IsSettled {N D : Type 0} (machine : N → Input → Moved N) (seen : D → List ℕ) (may_leave : D → List ℕ → Type 0) (disk : D) (stand : Standing N) (commit : ℕ) (title : List ℕ) (opening : N) (inputs : List Arrived) : Type 0 where
   pub batches : List Batch
   pub all : all_of batches ≡ inputs
-  pub reads : ReadsJournal (seen disk) title batches gate
+  pub reads : ReadsJournal (seen disk) title batches commit
   pub stand_is : stand ≡ after machine (begun opening) inputs
   pub durable : Only (seen disk) (may_leave disk)
 
 -- the same for some title, opening and inputs
 abbrev pub HasSettled : {N D : Type 0} → (N → Input → Moved N) → (D → List ℕ) → (D → List ℕ → Type 0) → D → Standing N → ℕ → Type 0
-HasSettled {N} machine seen may_leave disk stand gate = (title : List ℕ) × (opening : N) × (inputs : List Arrived) × IsSettled machine seen may_leave disk stand gate title opening inputs
+HasSettled {N} machine seen may_leave disk stand commit = (title : List ℕ) × (opening : N) × (inputs : List Arrived) × IsSettled machine seen may_leave disk stand commit title opening inputs

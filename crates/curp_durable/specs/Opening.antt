@@ -15,7 +15,7 @@ use Rattle.curp_durable.specs.declared.opening.Next.TheVariants as next
 
 -- ---- one record
 
--- an open gate with a record behind it, and some next gate
+-- an open commit with a record behind it, and some next commit
 pub record FindsRecord (bytes : List ℕ) (b : Batch) (step : ℕ) : Type 0 where
   pub byte : ℕ
   pub rest : List ℕ
@@ -23,20 +23,20 @@ pub record FindsRecord (bytes : List ℕ) (b : Batch) (step : ℕ) : Type 0 wher
   pub encodes : HasEncoding b
   pub far : step ≡ length (framed b) + 1
 
--- an open gate with no such record
+-- an open commit with no such record
 pub record FindsNone (bytes : List ℕ) : Type 0 where
   pub rest : List ℕ
   pub is : bytes ≡ 1 ∷ rest
   pub none : (b : Batch) (byte : ℕ) (tail : List ℕ) → HasEncoding b → rest ≢ framed b ++ byte ∷ tail
 
--- a gate that isn't open
+-- a commit that isn't open
 pub record FindsShut (bytes : List ℕ) : Type 0 where
   pub byte : ℕ
   pub rest : List ℕ
   pub is : bytes ≡ byte ∷ rest
   pub shut : byte ≢ 1
 
--- an open gate, and so many bytes behind it and their length, and more
+-- an open commit, and so many bytes behind it and their length, and more
 pub record FindsPiece (bytes : List ℕ) (len : ℕ) : Type 0 where
   pub rest : List ℕ
   pub is : bytes ≡ 1 ∷ (to_be_bytes w32 len ++ rest)
@@ -49,44 +49,44 @@ FindsNext bytes next.Shut = FindsShut bytes
 FindsNext bytes (next.Piece len) = FindsPiece bytes len
 FindsNext bytes next.Cut = FindsNone bytes
 
--- the batch that stands at a gate, and where the next gate stands
+-- the batch that stands at a commit, and where the next commit stands
 abbrev pub FindsBatch : List ℕ → ℕ → Option Found → Type 0
-FindsBatch content gate None = FindsShut (drop gate content)
-FindsBatch content gate (Some found) = (step : ℕ) × FindsRecord (drop gate content) found.batch.items step × (found.behind ≡ gate + step)
+FindsBatch content commit None = FindsShut (drop commit content)
+FindsBatch content commit (Some found) = (step : ℕ) × FindsRecord (drop commit content) found.batch.items step × (found.behind ≡ commit + step)
 
--- an open gate with no record that can stand there
+-- an open commit with no record that can stand there
 abbrev pub FindsNot : List ℕ → ℕ → OpenError → Type 0
-FindsNot content gate opened.NotFormatted = ⊥
-FindsNot content gate (opened.Damaged place) = FindsNone (drop gate content) × (place ≡ gate)
-FindsNot content gate opened.DiskFault = ⊥
-FindsNot content gate opened.NoMemory = ⊤
+FindsNot content commit opened.NotFormatted = ⊥
+FindsNot content commit (opened.Damaged place) = FindsNone (drop commit content) × (place ≡ commit)
+FindsNot content commit opened.DiskFault = ⊥
+FindsNot content commit opened.NoMemory = ⊤
 
 -- ---- all records
 
--- A journal of these batches up to a gate of any byte
-pub record Walked (content title : List ℕ) (gate : ℕ) (batches : List Batch) : Type 0 where
+-- A journal of these batches up to a commit of any byte
+pub record Walked (content title : List ℕ) (commit : ℕ) (batches : List Batch) : Type 0 where
   pub byte : ℕ
   pub rest : List ℕ
   pub is : content ≡ (title ++ records batches) ++ byte ∷ rest
-  pub place : length (title ++ records batches) ≡ gate
+  pub place : length (title ++ records batches) ≡ commit
   pub encoded : Each HasEncoding batches
 
 -- such a journal, and where its batches led the node
-pub record WalkedBy {N : Type 0} (machine : N → Input → Moved N) (content title : List ℕ) (opening : N) (gate : ℕ) (stand : Standing N) : Type 0 where
+pub record WalkedBy {N : Type 0} (machine : N → Input → Moved N) (content title : List ℕ) (opening : N) (commit : ℕ) (stand : Standing N) : Type 0 where
   pub batches : List Batch
-  pub walked : Walked content title gate batches
+  pub walked : Walked content title commit batches
   pub stand_is : stand ≡ after machine (begun opening) (all_of batches)
 
 -- such a journal, and its inputs
-pub record WalkedOver (content title : List ℕ) (gate : ℕ) (inputs : List Arrived) : Type 0 where
+pub record WalkedOver (content title : List ℕ) (commit : ℕ) (inputs : List Arrived) : Type 0 where
   pub batches : List Batch
-  pub walked : Walked content title gate batches
+  pub walked : Walked content title commit batches
   pub all : all_of batches ≡ inputs
 
 -- the journal of these batches, and where they led the node
-pub record IsOpened {N : Type 0} (machine : N → Input → Moved N) (content title : List ℕ) (opening : N) (gate : ℕ) (stand : Standing N) : Type 0 where
+pub record IsOpened {N : Type 0} (machine : N → Input → Moved N) (content title : List ℕ) (opening : N) (commit : ℕ) (stand : Standing N) : Type 0 where
   pub batches : List Batch
-  pub reads : ReadsJournal content title batches gate
+  pub reads : ReadsJournal content title batches commit
   pub stand_is : stand ≡ after machine (begun opening) (all_of batches)
 
 -- why there is no journal to open
@@ -96,7 +96,7 @@ OpensNot content title (opened.Damaged place) = IsDamaged content title place
 OpensNot content title opened.DiskFault = ⊤
 OpensNot content title opened.NoMemory = ⊤
 
--- a title stands at the start, and a gate behind it
+-- a title stands at the start, and a commit behind it
 pub record StartsJournal (content title : List ℕ) : Type 0 where
   pub byte : ℕ
   pub rest : List ℕ

@@ -46,22 +46,22 @@ RunsCalls wrote synced calls old kept.NoMemory new = MadeUntil wrote synced did.
 abbrev pub keeping : ℕ → List ℕ → List Call
 keeping at bytes = call.Write at bytes ∷ call.Sync ∷ []
 
--- a record is kept behind a shut gate, and then the gate is opened
+-- a record is kept behind a shut commit, and then the commit is opened
 abbrev pub appending : ℕ → List ℕ → List Call
-appending gate piece = keeping (gate + 1) piece ++ keeping gate (1 ∷ [])
+appending commit piece = keeping (commit + 1) piece ++ keeping commit (1 ∷ [])
 
 -- those that keep what is taken of a batch: none where nothing is
-abbrev pub calls_for : (gate : ℕ) → List Arrived → List Call
-calls_for gate [] = []
-calls_for gate (a ∷ more) = appending gate (record_of (a ∷ more))
+abbrev pub calls_for : (commit : ℕ) → List Arrived → List Call
+calls_for commit [] = []
+calls_for commit (a ∷ more) = appending commit (record_of (a ∷ more))
 
--- where the last gate then stands
-abbrev pub gate_behind : (gate : ℕ) → List Arrived → ℕ
-gate_behind gate [] = gate
-gate_behind gate (a ∷ more) = gate + length (record_of (a ∷ more))
+-- where the last commit then stands
+abbrev pub commit_behind : (commit : ℕ) → List Arrived → ℕ
+commit_behind commit [] = commit
+commit_behind commit (a ∷ more) = commit + length (record_of (a ∷ more))
 
--- How far these calls went where the batch was refused: to one at which the disk failed or wanted memory, and else nowhere
-abbrev pub RanUntil : {D : Type 0} → (D → ℕ → List ℕ → Did → D → Type 0) → (D → Did → D → Type 0) → (gate : ℕ) → List Arrived → (old new : D) → DurableError → Type 0
-RanUntil wrote synced gate b old new durable.DiskFault = HasEncoding b × MadeUntil wrote synced did.Failed (calls_for gate b) old new
-RanUntil wrote synced gate b old new durable.NoMemory = (new ≡ old) ⊎ MadeUntil wrote synced did.NoMemory (calls_for gate b) old new
-RanUntil wrote synced gate b old new _ = new ≡ old
+-- How far these calls went where the batch was refused: to one at which the disk failed or ran out of memory, and else nowhere
+abbrev pub RanUntil : {D : Type 0} → (D → ℕ → List ℕ → Did → D → Type 0) → (D → Did → D → Type 0) → (commit : ℕ) → List Arrived → (old new : D) → DurableError → Type 0
+RanUntil wrote synced commit b old new durable.DiskFault = HasEncoding b × MadeUntil wrote synced did.Failed (calls_for commit b) old new
+RanUntil wrote synced commit b old new durable.NoMemory = (new ≡ old) ⊎ MadeUntil wrote synced did.NoMemory (calls_for commit b) old new
+RanUntil wrote synced commit b old new _ = new ≡ old

@@ -7,7 +7,7 @@ use Rattle.curp_disk.specs.declared.disk.Did.TheVariants as did
 use Rattle.curp_disk.specs.declared.medium.Call.TheVariants as call
 use Rattle.curp_journal.specs.declared.arrived.Arrived.{Arrived}
 use Rattle.curp_durable.specs.Journal.{HasEncoding}
-use Rattle.curp_durable.specs.Running.{MadeUntil, calls_for, gate_behind}
+use Rattle.curp_durable.specs.Running.{MadeUntil, calls_for, commit_behind}
 
 -- the meanings of such a disk
 abbrev pub stop_seen : StopParts → List ℕ
@@ -23,20 +23,20 @@ abbrev pub StopSynced : StopParts → Did → StopParts → Type 0
 StopSynced old result new = StopRan old call.Sync result new
 
 -- The disk was to stop at one of the four calls that keep what is taken of a batch, and did so
-pub record IsStopped (old new : StopParts) (gate k : ℕ) (b : List Arrived) : Type 0 where
+pub record IsStopped (old new : StopParts) (commit k : ℕ) (b : List Arrived) : Type 0 where
   pub armed : old.armed ≡ Some k
   pub first : 1 ≤ k
   pub last : k ≤ 4
   pub encodes : HasEncoding b
-  pub ran : MadeUntil StopWrote StopSynced did.Failed (calls_for gate b) old new
+  pub ran : MadeUntil StopWrote StopSynced did.Failed (calls_for commit b) old new
 
 -- it was the last of the four, and what wasn't synced outlives the crash
 abbrev pub outlives : (k : ℕ) → (unsynced : Bool) → Bool
 outlives k unsynced = (k == 4) && unsynced
 
--- the inputs that are kept, and where the last gate then stands
+-- the inputs that are kept, and where the last commit then stands
 abbrev pub kept_inputs : (inputs b : List Arrived) → (k : ℕ) → (unsynced : Bool) → List Arrived
 kept_inputs inputs b k unsynced = if outlives k unsynced then inputs ++ b else inputs
 
-abbrev pub kept_gate : (gate : ℕ) → (b : List Arrived) → (k : ℕ) → (unsynced : Bool) → ℕ
-kept_gate gate b k unsynced = if outlives k unsynced then gate_behind gate b else gate
+abbrev pub kept_commit : (commit : ℕ) → (b : List Arrived) → (k : ℕ) → (unsynced : Bool) → ℕ
+kept_commit commit b k unsynced = if outlives k unsynced then commit_behind commit b else commit

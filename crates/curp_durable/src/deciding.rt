@@ -36,17 +36,17 @@ fn is_short(bytes: &[u8]) -> bool
     bytes.len() <= u32::MAX as usize
 }
 
-/// Whether there is room behind a gate for the record of so many bytes.
-fn has_room(gate: u64, size_limit: u64, length: usize) -> bool
-    ensures yes { result ≡ true → gate + 6 + length ≤ size_limit }
-    ensures no { result ≡ false → size_limit < gate + 6 + length }
+/// Whether there is room behind a commit for the record of so many bytes.
+fn has_room(commit: u64, size_limit: u64, length: usize) -> bool
+    ensures yes { result ≡ true → commit + 6 + length ≤ size_limit }
+    ensures no { result ≡ false → size_limit < commit + 6 + length }
 {
-    gate <= size_limit
-        && length as u64 <= size_limit - gate
-        && size_limit - gate - length as u64 >= 6
+    commit <= size_limit
+        && length as u64 <= size_limit - commit
+        && size_limit - commit - length as u64 >= 6
 }
 
-/// Bytes behind their length, and a shut gate.
+/// Bytes behind their length, and a shut commit.
 fn piece_of(alloc: Global, bytes: &[u8]) -> Result<Vec<u8>, NoMemory>
     requires { length bytes.now < 2 ^ 32 }
     ensures { IfOk result (λ piece. piece.items ≡ behind_length bytes.now ++ 0 ∷ []) }
@@ -57,22 +57,22 @@ fn piece_of(alloc: Global, bytes: &[u8]) -> Result<Vec<u8>, NoMemory>
     Ok(piece)
 }
 
-/// The record of a batch, if a journal takes it and there is room behind the gate.
+/// The record of a batch, if a journal takes it and there is room behind the commit.
 #[tactic(auto, using(crate::proofs::Pieces::encoded, crate::proofs::Pieces::full, crate::proofs::Pieces::none_of_one, crate::proofs::Pieces::record_is, crate::proofs::Pieces::too_long))]
 fn record_of(
     alloc: Global,
-    gate: u64,
+    commit: u64,
     size_limit: u64,
     inputs: &[Arrived],
 ) -> Result<Vec<u8>, DurableError>
-    ensures ok { IfOk result (λ piece. IsRecord gate size_limit inputs.now piece.items) }
-    ensures err { IfErr result (Declines gate size_limit inputs.now) }
+    ensures ok { IfOk result (λ piece. IsRecord commit size_limit inputs.now piece.items) }
+    ensures err { IfErr result (Declines commit size_limit inputs.now) }
 {
     let bytes = encode(alloc, inputs)?;
     if !is_short(&bytes) {
         return Err(DurableError::NoEncoding);
     }
-    if !has_room(gate, size_limit, bytes.len()) {
+    if !has_room(commit, size_limit, bytes.len()) {
         return Err(DurableError::Full);
     }
     Ok(piece_of(alloc, &bytes)?)
@@ -82,18 +82,18 @@ fn record_of(
 pub(crate) fn decide<N: Core>(
     alloc: Global,
     stand: &mut Stand<N>,
-    gate: u64,
+    commit: u64,
     size_limit: u64,
     inputs: Vec<Arrived>,
 ) -> Result<Decided, Stopped>
-    ensures decides { IfOk result (λ d. Decides N.machine stand.old gate size_limit inputs.items d.piece.items
+    ensures decides { IfOk result (λ d. Decides N.machine stand.old commit size_limit inputs.items d.piece.items
         d.answers.items) }
     ensures nothing { IfOk result (λ d. taken N.machine stand.old inputs.items ≡ [] → d.piece.items ≡ []) }
     ensures state { OnOk result (stand.new ≡ after N.machine stand.old inputs.items) }
     ensures encoded { OnOk result (HasEncoding inputs.items) }
-    ensures stops { IfErr result (Stops stand.old stand.new gate size_limit inputs.items) }
+    ensures stops { IfErr result (Stops stand.old stand.new commit size_limit inputs.items) }
 {
-    let piece = match record_of(alloc, gate, size_limit, &inputs) {
+    let piece = match record_of(alloc, commit, size_limit, &inputs) {
         Ok(piece) => piece,
         Err(why) => return Err(Stopped::Unchanged(why)),
     };
@@ -109,7 +109,7 @@ pub(crate) fn decide<N: Core>(
     if made == count {
         return Ok(Decided { piece, answers });
     }
-    match record_again(alloc, gate, size_limit, &answers) {
+    match record_again(alloc, commit, size_limit, &answers) {
         Ok(piece) => Ok(Decided { piece, answers }),
         Err(_) => Err(Stopped::Moved),
     }
@@ -118,12 +118,12 @@ pub(crate) fn decide<N: Core>(
 /// The record of those that were made.
 fn record_again(
     alloc: Global,
-    gate: u64,
+    commit: u64,
     size_limit: u64,
     answers: &[Answered],
 ) -> Result<Vec<u8>, DurableError>
-    ensures { IfOk result (λ piece. IsRecord gate size_limit (made_inputs answers.now) piece.items) }
+    ensures { IfOk result (λ piece. IsRecord commit size_limit (made_inputs answers.now) piece.items) }
 {
     let inputs = made_inputs(alloc, answers)?;
-    record_of(alloc, gate, size_limit, &inputs)
+    record_of(alloc, commit, size_limit, &inputs)
 }

@@ -8,7 +8,7 @@ ghost use Rattle.curp_durable.specs.Appending.{Quiet};
 ghost use Rattle.curp_durable.specs.Journal.{HasSettled, HoldsJournal, HoldsUpTo, IsBeforeOrAfter, IsSettled};
 ghost use Rattle.curp_durable.specs.Lone.{done_by};
 ghost use Rattle.curp_durable.specs.Opening.{Exists, IsOfTheMoment, IsOnlyCause, IsOpened, OpensNot};
-ghost use Rattle.curp_durable.specs.Running.{AllMade, RanUntil, calls_for, gate_behind};
+ghost use Rattle.curp_durable.specs.Running.{AllMade, RanUntil, calls_for, commit_behind};
 ghost use Rattle.curp_durable.specs.Standing.{after, answers_of, stepped, taken};
 
 use crate::deciding::{Stopped, decide};
@@ -23,7 +23,7 @@ use curp_msg::{Core, Done, Local};
 use std::alloc::Global;
 use std::marker::Model;
 
-/// How many bytes a journal has at most, its last gate counted, where the caller has no reason for another limit.
+/// How many bytes a journal has at most, its last commit counted, where the caller has no reason for another limit.
 pub const SIZE_LIMIT: u64 = 1_073_741_824;
 
 /// A node whose inputs stand on a disk before what it sends goes out. Of its journal it keeps no item in memory.
@@ -32,8 +32,8 @@ pub struct Durable<N: Core, D: Disk> {
     alloc: Global,
     disk: D,
     stand: Stand<N>,
-    // The place of the last gate, which is shut.
-    gate: u64,
+    // The place of the last commit, which is shut.
+    commit: u64,
     size_limit: u64,
     spent: bool,
 }
@@ -48,13 +48,13 @@ impl<N: Core, D: Disk> Model for Durable<N, D> {
     ghost view = { λ d. record {
       disk = d.disk;
       stand = d.stand;
-      gate = d.gate;
+      commit = d.commit;
       size_limit = d.size_limit;
       spent = d.spent;
     } };
 
     ghost invariant = { λ d. (D.tells ≡ true → d.spent ≡ false
-        → HasSettled N.machine D.seen D.may_leave d.disk d.stand d.gate) × (d.gate + 1 < 2 ^ 64) };
+        → HasSettled N.machine D.seen D.may_leave d.disk d.stand d.commit) × (d.commit + 1 < 2 ^ 64) };
 }
 
 /// Why a journal wasn't opened, with its disk.
@@ -69,7 +69,7 @@ impl<N: Core + Drop, D: Disk> Durable<N, D> {
     /// input, gets the inputs that stand there. It takes memory for the journal's bytes and for what the node holds;
     /// what the node sends is dropped. Nothing is written.
     ///
-    /// The size limit is how many bytes the journal may have, its last gate counted (`SIZE_LIMIT` where the caller has
+    /// The size limit is how many bytes the journal may have, its last commit counted (`SIZE_LIMIT` where the caller has
     /// no reason for another). A longer journal is opened too; it takes no more batches.
     pub fn open(
         alloc: Global,
@@ -79,7 +79,7 @@ impl<N: Core + Drop, D: Disk> Durable<N, D> {
         size_limit: u64,
     ) -> Result<Durable<N, D>, OpenFailed<D>>
         ensures ok { D.tells ≡ true → IfOk result (λ d. (d.spent ≡ false)
-            × IsOpened N.machine (D.seen disk) title.now node d.gate d.stand) }
+            × IsOpened N.machine (D.seen disk) title.now node d.commit d.stand) }
         ensures fresh { IfOk result (λ d. d.spent ≡ false) }
         ensures limit { IfOk result (λ d. d.size_limit ≡ size_limit) }
         ensures quiet { IfOk result (λ d. Quiet D.seen D.may_leave D.moment D.left_since disk d.disk) }
@@ -92,18 +92,18 @@ impl<N: Core + Drop, D: Disk> Durable<N, D> {
         ensures only_there { D.tells ≡ true → OnOk result (Exists (D.seen disk) title.now) }
         ensures one_cause { D.tells ≡ true → IfErr result (λ f. IsOnlyCause (D.seen disk) title.now f.error) }
         ensures journal { (inputs : List Arrived) → D.tells ≡ true → HoldsJournal (D.seen disk) title.now inputs
-            → IfOk result (λ d. IsSettled N.machine D.seen D.may_leave d.disk d.stand d.gate title.now node inputs) }
-        ensures gate { (inputs : List Arrived) (gate : ℕ) → D.tells ≡ true
-            → HoldsUpTo (D.seen disk) title.now inputs gate → IfOk result (λ d. d.gate ≡ gate) }
+            → IfOk result (λ d. IsSettled N.machine D.seen D.may_leave d.disk d.stand d.commit title.now node inputs) }
+        ensures commit { (inputs : List Arrived) (commit : ℕ) → D.tells ≡ true
+            → HoldsUpTo (D.seen disk) title.now inputs commit → IfOk result (λ d. d.commit ≡ commit) }
         ensures journal_err { (inputs : List Arrived) → D.tells ≡ true → HoldsJournal (D.seen disk) title.now inputs
             → IfErr result (λ f. IsOfTheMoment f.error) }
     {
         match recover(alloc, &mut disk, title, node) {
-            Ok((stand, gate)) => Ok(Durable {
+            Ok((stand, commit)) => Ok(Durable {
                 alloc,
                 disk,
                 stand,
-                gate,
+                commit,
                 size_limit,
                 spent: false,
             }),
@@ -117,20 +117,20 @@ impl<N: Core + Drop, D: Disk> Durable<N, D> {
         ensures state { OnOk result (self.new.stand ≡ after N.machine self.old.stand inputs.items) }
         ensures goes_on { OnOk result ((self.old.spent ≡ false) × (self.new.spent ≡ false)) }
         ensures limit { self.new.size_limit ≡ self.old.size_limit }
-        ensures gate { OnOk result (self.new.gate
-            ≡ gate_behind self.old.gate (taken N.machine self.old.stand inputs.items)) }
-        ensures ran { OnOk result (AllMade D.wrote D.synced (calls_for self.old.gate
+        ensures commit { OnOk result (self.new.commit
+            ≡ commit_behind self.old.commit (taken N.machine self.old.stand inputs.items)) }
+        ensures ran { OnOk result (AllMade D.wrote D.synced (calls_for self.old.commit
             (taken N.machine self.old.stand inputs.items)) self.old.disk self.new.disk) }
         ensures err { IfErr result (RefusesBatch D.faults self.old self.new inputs.items) }
-        ensures ran_err { IfErr result (RanUntil D.wrote D.synced self.old.gate
+        ensures ran_err { IfErr result (RanUntil D.wrote D.synced self.old.commit
             (taken N.machine self.old.stand inputs.items) self.old.disk self.new.disk) }
         ensures kept { (title : List ℕ) (opening : N) (so_far : List Arrived) → D.tells ≡ true → IsOk result
-            → IsSettled N.machine D.seen D.may_leave self.old.disk self.old.stand self.old.gate title opening so_far
-            → IsSettled N.machine D.seen D.may_leave self.new.disk self.new.stand self.new.gate title opening
+            → IsSettled N.machine D.seen D.may_leave self.old.disk self.old.stand self.old.commit title opening so_far
+            → IsSettled N.machine D.seen D.may_leave self.new.disk self.new.stand self.new.commit title opening
             (so_far ++ taken N.machine self.old.stand inputs.items) }
         ensures any_moment { (title : List ℕ) (opening : N) (so_far : List Arrived) → D.tells ≡ true
             → self.old.spent ≡ false
-            → IsSettled N.machine D.seen D.may_leave self.old.disk self.old.stand self.old.gate title opening so_far
+            → IsSettled N.machine D.seen D.may_leave self.old.disk self.old.stand self.old.commit title opening so_far
             → LeavesOnly D.moment D.left_since self.old.disk self.new.disk
             (IsBeforeOrAfter title so_far (taken N.machine self.old.stand inputs.items)) }
         ensures sound { D.sound self.old.disk → (result ≢ Err DurableError.DiskFault) × D.sound self.new.disk }
@@ -140,14 +140,14 @@ impl<N: Core + Drop, D: Disk> Durable<N, D> {
             return Err(DurableError::Spent);
         }
         let size_limit = self.size_limit;
-        match decide(self.alloc, &mut self.stand, self.gate, size_limit, inputs) {
+        match decide(self.alloc, &mut self.stand, self.commit, size_limit, inputs) {
             Ok(decided) => {
                 if decided.piece.is_empty() {
                     return Ok(decided.answers);
                 }
-                match append(&mut self.disk, self.gate, &decided.piece) {
+                match append(&mut self.disk, self.commit, &decided.piece) {
                     Kept::Kept => {
-                        self.gate += decided.piece.len() as u64;
+                        self.commit += decided.piece.len() as u64;
                         Ok(decided.answers)
                     }
                     Kept::Failed => {
@@ -175,20 +175,20 @@ impl<N: Core + Drop, D: Disk> Durable<N, D> {
         ensures state { OnOk result (self.new.stand ≡ stepped N.machine self.old.stand arrived) }
         ensures goes_on { OnOk result ((self.old.spent ≡ false) × (self.new.spent ≡ false)) }
         ensures limit { self.new.size_limit ≡ self.old.size_limit }
-        ensures gate { OnOk result (self.new.gate
-            ≡ gate_behind self.old.gate (taken N.machine self.old.stand (arrived ∷ []))) }
-        ensures ran { OnOk result (AllMade D.wrote D.synced (calls_for self.old.gate
+        ensures commit { OnOk result (self.new.commit
+            ≡ commit_behind self.old.commit (taken N.machine self.old.stand (arrived ∷ []))) }
+        ensures ran { OnOk result (AllMade D.wrote D.synced (calls_for self.old.commit
             (taken N.machine self.old.stand (arrived ∷ []))) self.old.disk self.new.disk) }
         ensures err { IfErr result (RefusesBatch D.faults self.old self.new (arrived ∷ [])) }
-        ensures ran_err { IfErr result (RanUntil D.wrote D.synced self.old.gate
+        ensures ran_err { IfErr result (RanUntil D.wrote D.synced self.old.commit
             (taken N.machine self.old.stand (arrived ∷ [])) self.old.disk self.new.disk) }
         ensures kept { (title : List ℕ) (opening : N) (so_far : List Arrived) → D.tells ≡ true → IsOk result
-            → IsSettled N.machine D.seen D.may_leave self.old.disk self.old.stand self.old.gate title opening so_far
-            → IsSettled N.machine D.seen D.may_leave self.new.disk self.new.stand self.new.gate title opening
+            → IsSettled N.machine D.seen D.may_leave self.old.disk self.old.stand self.old.commit title opening so_far
+            → IsSettled N.machine D.seen D.may_leave self.new.disk self.new.stand self.new.commit title opening
             (so_far ++ taken N.machine self.old.stand (arrived ∷ [])) }
         ensures any_moment { (title : List ℕ) (opening : N) (so_far : List Arrived) → D.tells ≡ true
             → self.old.spent ≡ false
-            → IsSettled N.machine D.seen D.may_leave self.old.disk self.old.stand self.old.gate title opening so_far
+            → IsSettled N.machine D.seen D.may_leave self.old.disk self.old.stand self.old.commit title opening so_far
             → LeavesOnly D.moment D.left_since self.old.disk self.new.disk
             (IsBeforeOrAfter title so_far (taken N.machine self.old.stand (arrived ∷ []))) }
         ensures sound { D.sound self.old.disk → (result ≢ Err DurableError.DiskFault) × D.sound self.new.disk }
@@ -213,20 +213,20 @@ impl<N: Core + Drop, D: Disk> Durable<N, D> {
         ensures state { OnOk result (self.new.stand ≡ stepped N.machine self.old.stand (arrived.Message named)) }
         ensures goes_on { OnOk result ((self.old.spent ≡ false) × (self.new.spent ≡ false)) }
         ensures limit { self.new.size_limit ≡ self.old.size_limit }
-        ensures gate { OnOk result (self.new.gate
-            ≡ gate_behind self.old.gate (taken N.machine self.old.stand (arrived.Message named ∷ []))) }
-        ensures ran { OnOk result (AllMade D.wrote D.synced (calls_for self.old.gate
+        ensures commit { OnOk result (self.new.commit
+            ≡ commit_behind self.old.commit (taken N.machine self.old.stand (arrived.Message named ∷ []))) }
+        ensures ran { OnOk result (AllMade D.wrote D.synced (calls_for self.old.commit
             (taken N.machine self.old.stand (arrived.Message named ∷ []))) self.old.disk self.new.disk) }
         ensures err { IfErr result (RefusesBatch D.faults self.old self.new (arrived.Message named ∷ [])) }
-        ensures ran_err { IfErr result (RanUntil D.wrote D.synced self.old.gate
+        ensures ran_err { IfErr result (RanUntil D.wrote D.synced self.old.commit
             (taken N.machine self.old.stand (arrived.Message named ∷ [])) self.old.disk self.new.disk) }
         ensures kept { (title : List ℕ) (opening : N) (so_far : List Arrived) → D.tells ≡ true → IsOk result
-            → IsSettled N.machine D.seen D.may_leave self.old.disk self.old.stand self.old.gate title opening so_far
-            → IsSettled N.machine D.seen D.may_leave self.new.disk self.new.stand self.new.gate title opening
+            → IsSettled N.machine D.seen D.may_leave self.old.disk self.old.stand self.old.commit title opening so_far
+            → IsSettled N.machine D.seen D.may_leave self.new.disk self.new.stand self.new.commit title opening
             (so_far ++ taken N.machine self.old.stand (arrived.Message named ∷ [])) }
         ensures any_moment { (title : List ℕ) (opening : N) (so_far : List Arrived) → D.tells ≡ true
             → self.old.spent ≡ false
-            → IsSettled N.machine D.seen D.may_leave self.old.disk self.old.stand self.old.gate title opening so_far
+            → IsSettled N.machine D.seen D.may_leave self.old.disk self.old.stand self.old.commit title opening so_far
             → LeavesOnly D.moment D.left_since self.old.disk self.new.disk
             (IsBeforeOrAfter title so_far (taken N.machine self.old.stand (arrived.Message named ∷ []))) }
         ensures sound { D.sound self.old.disk → (result ≢ Err DurableError.DiskFault) × D.sound self.new.disk }
@@ -241,20 +241,20 @@ impl<N: Core + Drop, D: Disk> Durable<N, D> {
         ensures state { OnOk result (self.new.stand ≡ stepped N.machine self.old.stand (arrived.Local order stamp)) }
         ensures goes_on { OnOk result ((self.old.spent ≡ false) × (self.new.spent ≡ false)) }
         ensures limit { self.new.size_limit ≡ self.old.size_limit }
-        ensures gate { OnOk result (self.new.gate
-            ≡ gate_behind self.old.gate (taken N.machine self.old.stand (arrived.Local order stamp ∷ []))) }
-        ensures ran { OnOk result (AllMade D.wrote D.synced (calls_for self.old.gate
+        ensures commit { OnOk result (self.new.commit
+            ≡ commit_behind self.old.commit (taken N.machine self.old.stand (arrived.Local order stamp ∷ []))) }
+        ensures ran { OnOk result (AllMade D.wrote D.synced (calls_for self.old.commit
             (taken N.machine self.old.stand (arrived.Local order stamp ∷ []))) self.old.disk self.new.disk) }
         ensures err { IfErr result (RefusesBatch D.faults self.old self.new (arrived.Local order stamp ∷ [])) }
-        ensures ran_err { IfErr result (RanUntil D.wrote D.synced self.old.gate
+        ensures ran_err { IfErr result (RanUntil D.wrote D.synced self.old.commit
             (taken N.machine self.old.stand (arrived.Local order stamp ∷ [])) self.old.disk self.new.disk) }
         ensures kept { (title : List ℕ) (opening : N) (so_far : List Arrived) → D.tells ≡ true → IsOk result
-            → IsSettled N.machine D.seen D.may_leave self.old.disk self.old.stand self.old.gate title opening so_far
-            → IsSettled N.machine D.seen D.may_leave self.new.disk self.new.stand self.new.gate title opening
+            → IsSettled N.machine D.seen D.may_leave self.old.disk self.old.stand self.old.commit title opening so_far
+            → IsSettled N.machine D.seen D.may_leave self.new.disk self.new.stand self.new.commit title opening
             (so_far ++ taken N.machine self.old.stand (arrived.Local order stamp ∷ [])) }
         ensures any_moment { (title : List ℕ) (opening : N) (so_far : List Arrived) → D.tells ≡ true
             → self.old.spent ≡ false
-            → IsSettled N.machine D.seen D.may_leave self.old.disk self.old.stand self.old.gate title opening so_far
+            → IsSettled N.machine D.seen D.may_leave self.old.disk self.old.stand self.old.commit title opening so_far
             → LeavesOnly D.moment D.left_since self.old.disk self.new.disk
             (IsBeforeOrAfter title so_far (taken N.machine self.old.stand (arrived.Local order stamp ∷ []))) }
         ensures sound { D.sound self.old.disk → (result ≢ Err DurableError.DiskFault) × D.sound self.new.disk }
@@ -268,7 +268,7 @@ impl<N: Core + Drop, D: Disk> Durable<N, D> {
     pub fn spent(&self) -> bool
         ensures value { result ≡ self.now.spent }
         ensures settled { D.tells ≡ true → self.now.spent ≡ false
-            → HasSettled N.machine D.seen D.may_leave self.now.disk self.now.stand self.now.gate }
+            → HasSettled N.machine D.seen D.may_leave self.now.disk self.now.stand self.now.commit }
     {
         self.spent
     }
@@ -306,7 +306,7 @@ impl<N: Core + Drop, D: Disk> Durable<N, D> {
             alloc: _,
             disk,
             stand: _,
-            gate: _,
+            commit: _,
             size_limit: _,
             spent: _,
         } = self;

@@ -12,7 +12,7 @@ use std::alloc::Global;
 /// it may be called again.
 pub fn format<D: Disk>(alloc: Global, disk: &mut D, title: &[u8]) -> Result<(), FormatError>
     ensures ok { D.tells ≡ true → OnOk result (HoldsJournal (D.seen disk.new) title.now []) }
-    ensures gate { D.tells ≡ true → OnOk result (HoldsUpTo (D.seen disk.new) title.now [] (length title.now)) }
+    ensures commit { D.tells ≡ true → OnOk result (HoldsUpTo (D.seen disk.new) title.now [] (length title.now)) }
     ensures durable { D.tells ≡ true → OnOk result (Only (D.seen disk.new) (D.may_leave disk.new)) }
     ensures not_empty { D.tells ≡ true → result ≡ Err FormatError.NotEmpty
         → length title.now + 1 < length (D.seen disk.old) }
@@ -42,7 +42,7 @@ pub fn format<D: Disk>(alloc: Global, disk: &mut D, title: &[u8]) -> Result<(), 
     }
 }
 
-/// The title, and a shut gate.
+/// The title, and a shut commit.
 fn opening_bytes(alloc: Global, title: &[u8]) -> Result<Vec<u8>, NoMemory>
     ensures { IfOk result (λ bytes. bytes.items ≡ title.now ++ 0 ∷ []) }
 {

@@ -6,7 +6,7 @@ ghost use Rattle.curp_journal.specs.declared.arrived.Arrived.{Arrived};
 ghost use Rattle.curp_durable.specs.Journal.{HoldsJournal, HoldsUpTo, IsDamaged, IsSettled};
 ghost use Rattle.curp_durable.specs.Opening.{Exists, IsOnlyCause, OpensNot};
 ghost use Rattle.curp_durable.specs.Standing.{Standing};
-ghost use Rattle.curp_durable.specs.Stopping.{IsStopped, StopLeaves, kept_gate, kept_inputs, stop_seen};
+ghost use Rattle.curp_durable.specs.Stopping.{IsStopped, StopLeaves, kept_commit, kept_inputs, stop_seen};
 ghost use Rattle.curp_durable.specs.declared.error.OpenError.{OpenError};
 
 use curp_msg::Core;
@@ -38,10 +38,10 @@ pub fn a_cause_excludes_others()
 /// On a disk that was armed at one of the four calls that keep a batch, and so stopped there, a crash leaves a journal:
 /// with all of the batch exactly where that was the last of them, and the unsynced writes are kept.
 pub fn a_stopped_batch_is_kept_or_lost<N: Core>()
-    ensures { (old new : StopParts) (stand : Standing N) (gate k : ℕ) (title : List ℕ) (opening : N)
+    ensures { (old new : StopParts) (stand : Standing N) (commit k : ℕ) (title : List ℕ) (opening : N)
         (inputs batch : List Arrived) (unsynced : Bool)
-        → IsSettled N.machine stop_seen StopLeaves old stand gate title opening inputs
-        → IsStopped old new gate k batch
+        → IsSettled N.machine stop_seen StopLeaves old stand commit title opening inputs
+        → IsStopped old new commit k batch
         → HoldsUpTo (seen_of (crashed unsynced new.played)) title (kept_inputs inputs batch k unsynced)
-        (kept_gate gate batch k unsynced) }
+        (kept_commit commit batch k unsynced) }
 {}

@@ -14,24 +14,24 @@ use curp_journal::Arrived;
 use curp_msg::Core;
 use std::alloc::Global;
 
-/// A batch behind an open gate, and where the next gate stands.
+/// A batch behind an open commit, and where the next commit stands.
 #[derive(Drop)]
 pub(crate) struct Found {
     batch: Vec<Arrived>,
     behind: usize,
 }
 
-/// What stands at a gate.
+/// What stands at a commit.
 #[derive(Clone, Copy, Debug, PartialEq, Eq)]
 pub(crate) enum Next {
     Shut,
-    /// An open gate, with a length behind it, and so many bytes and more.
+    /// An open commit, with a length behind it, and so many bytes and more.
     Piece { length: usize },
-    /// An open gate with too few bytes behind it.
+    /// An open commit with too few bytes behind it.
     Cut,
 }
 
-/// What stands at the start of bytes, of which the first is a gate.
+/// What stands at the start of bytes, of which the first is a commit.
 fn next_in(bytes: &[u8]) -> Next
     requires { 0 < length bytes.now }
     ensures { FindsNext bytes.now result }
@@ -50,46 +50,46 @@ fn next_in(bytes: &[u8]) -> Next
     }
 }
 
-/// The batch behind a gate; none behind a shut gate.
-fn batch_at(alloc: Global, content: &[u8], gate: usize) -> Result<Option<Found>, OpenError>
-    requires within { gate < length content.now }
-    ensures ok { IfOk result (FindsBatch content.now gate) }
-    ensures err { IfErr result (FindsNot content.now gate) }
+/// The batch behind a commit; none behind a shut commit.
+fn batch_at(alloc: Global, content: &[u8], commit: usize) -> Result<Option<Found>, OpenError>
+    requires within { commit < length content.now }
+    ensures ok { IfOk result (FindsBatch content.now commit) }
+    ensures err { IfErr result (FindsNot content.now commit) }
     ensures no_fault { IfErr result (λ e. e ≢ OpenError.DiskFault) }
 {
-    let bytes = &content[gate..];
+    let bytes = &content[commit..];
     match next_in(bytes) {
         Next::Shut => Ok(None),
-        Next::Cut => Err(OpenError::Damaged { place: gate as u64 }),
-        Next::Piece { length } => piece_at(alloc, content, gate, length),
+        Next::Cut => Err(OpenError::Damaged { place: commit as u64 }),
+        Next::Piece { length } => piece_at(alloc, content, commit, length),
     }
 }
 
-/// The batch whose encoding the so many bytes behind a gate and their length are.
+/// The batch whose encoding the so many bytes behind a commit and their length are.
 fn piece_at(
     alloc: Global,
     content: &[u8],
-    gate: usize,
+    commit: usize,
     len: usize,
 ) -> Result<Option<Found>, OpenError>
-    requires finds { FindsPiece (drop gate content.now) len }
-    requires within { gate + 5 + len < length content.now }
-    ensures ok { IfOk result (FindsBatch content.now gate) }
-    ensures err { IfErr result (FindsNot content.now gate) }
+    requires finds { FindsPiece (drop commit content.now) len }
+    requires within { commit + 5 + len < length content.now }
+    ensures ok { IfOk result (FindsBatch content.now commit) }
+    ensures err { IfErr result (FindsNot content.now commit) }
     ensures no_fault { IfErr result (λ e. e ≢ OpenError.DiskFault) }
 {
-    let start = gate + 5;
+    let start = commit + 5;
     let behind = start + len;
     let Ok(read) = batch_in(alloc, &content[start..behind]) else {
         return Err(OpenError::NoMemory);
     };
     match read {
         Some(batch) => Ok(Some(Found { batch, behind })),
-        None => Err(OpenError::Damaged { place: gate as u64 }),
+        None => Err(OpenError::Damaged { place: commit as u64 }),
     }
 }
 
-/// Walks along the journal from its first gate on, and gives the node what stands there.
+/// Walks along the journal from its first commit on, and gives the node what stands there.
 fn walk<N: Core + Drop>(
     alloc: Global,
     content: &[u8],
@@ -103,22 +103,22 @@ fn walk<N: Core + Drop>(
     ensures no_fault { IfErr result (λ e. e ≢ OpenError.DiskFault) }
 {
     let mut stand = Stand::begin(node);
-    let mut gate = title.len();
-    'gates: loop {
-        match batch_at(alloc, content, gate)? {
+    let mut commit = title.len();
+    'commits: loop {
+        match batch_at(alloc, content, commit)? {
             Some(found) => {
                 let behind = found.behind;
                 match stand.step_all(alloc, found.batch) {
-                    Ok(_) => gate = behind,
+                    Ok(_) => commit = behind,
                     Err(_) => return Err(OpenError::NoMemory),
                 }
             }
-            None => return Ok((stand, gate as u64)),
+            None => return Ok((stand, commit as u64)),
         }
     }
 }
 
-/// Reads the journal of a title and gives its inputs to a fresh node; also says where the last gate stands.
+/// Reads the journal of a title and gives its inputs to a fresh node; also says where the last commit stands.
 pub(crate) fn replay<N: Core + Drop>(
     alloc: Global,
     content: &[u8],
@@ -137,7 +137,7 @@ pub(crate) fn replay<N: Core + Drop>(
     }
 }
 
-/// Walks along the journal from its first gate on, and collects what stands there.
+/// Walks along the journal from its first commit on, and collects what stands there.
 fn collect(alloc: Global, content: &[u8], title: &[u8]) -> Result<Vec<Arrived>, OpenError>
     requires starts { StartsJournal content.now title.now }
     ensures ok { IfOk result (λ inputs. HoldsJournal content.now title.now inputs.items) }
@@ -145,11 +145,11 @@ fn collect(alloc: Global, content: &[u8], title: &[u8]) -> Result<Vec<Arrived>, 
     ensures no_fault { IfErr result (λ e. e ≢ OpenError.DiskFault) }
 {
     let mut inputs = Vec::new(alloc);
-    let mut gate = title.len();
-    'gates: loop {
-        match batch_at(alloc, content, gate)? {
+    let mut commit = title.len();
+    'commits: loop {
+        match batch_at(alloc, content, commit)? {
             Some(found) => {
-                gate = found.behind;
+                commit = found.behind;
                 let mut batch = found.batch;
                 inputs.append(&mut batch)?;
             }
@@ -159,7 +159,7 @@ fn collect(alloc: Global, content: &[u8], title: &[u8]) -> Result<Vec<Arrived>, 
 }
 
 /// The inputs of the journal of a title, which these bytes begin with. It takes memory for the inputs. Bytes that were read
-/// of a file to which a node still writes are a journal too, of the inputs up to a gate that wasn't open yet.
+/// of a file to which a node still writes are a journal too, of the inputs up to a commit that wasn't open yet.
 pub fn inputs_in(alloc: Global, content: &[u8], title: &[u8]) -> Result<Vec<Arrived>, OpenError>
     ensures ok { IfOk result (λ inputs. HoldsJournal content.now title.now inputs.items) }
     ensures err { IfErr result (OpensNot content.now title.now) }
@@ -172,7 +172,7 @@ pub fn inputs_in(alloc: Global, content: &[u8], title: &[u8]) -> Result<Vec<Arri
     }
 }
 
-/// Whether the title stands at the start, and a gate behind it.
+/// Whether the title stands at the start, and a commit behind it.
 #[tactic(auto, using(crate::proofs::Walking::title_there, crate::proofs::Walking::title_other, crate::proofs::Walking::title_short))]
 fn starts(content: &[u8], title: &[u8]) -> bool
     ensures yes { result ≡ true → StartsJournal content.now title.now }
@@ -249,7 +249,7 @@ pub(crate) fn contents<D: Disk>(alloc: Global, disk: &mut D) -> Result<Vec<u8>, 
     prefix_of(alloc, disk, size)
 }
 
-/// Reads the journal on a disk and gives its inputs to a fresh node; also says where the last gate stands.
+/// Reads the journal on a disk and gives its inputs to a fresh node; also says where the last commit stands.
 pub(crate) fn recover<N: Core + Drop, D: Disk>(
     alloc: Global,
     disk: &mut D,

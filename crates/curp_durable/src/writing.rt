@@ -1,4 +1,4 @@
-//! Records behind gates.
+//! Records behind commits.
 ghost use Rattle.std.specs.Prelude.{◌≡◌, ◌≢◌, ◌+◌, ◌^◌, ◌<◌, ◌≤◌, [], ◌∷◌, length, true};
 ghost use Rattle.curp_disk.specs.Disk.{LeavesOnly, Only, Torn, over};
 ghost use Rattle.curp_io.specs.Streams.{Rose};
@@ -39,23 +39,23 @@ pub(crate) fn keep<D: Disk>(disk: &mut D, at: u64, bytes: &[u8]) -> Kept
     }
 }
 
-/// Writes a record behind a gate, and then opens the gate.
-pub(crate) fn append<D: Disk>(disk: &mut D, gate: u64, piece: &[u8]) -> Kept
-    requires gate { D.tells ≡ true → gate < length (D.seen disk.old) }
-    requires place { gate + 1 < 2 ^ 64 }
+/// Writes a record behind a commit, and then opens the commit.
+pub(crate) fn append<D: Disk>(disk: &mut D, commit: u64, piece: &[u8]) -> Kept
+    requires commit { D.tells ≡ true → commit < length (D.seen disk.old) }
+    requires place { commit + 1 < 2 ^ 64 }
     requires durable { D.tells ≡ true → Only (D.seen disk.old) (D.may_leave disk.old) }
     ensures seen { D.tells ≡ true → result ≡ Kept.Kept
-        → D.seen disk.new ≡ over (over (D.seen disk.old) (gate + 1) piece.now) gate (1 ∷ []) }
+        → D.seen disk.new ≡ over (over (D.seen disk.old) (commit + 1) piece.now) commit (1 ∷ []) }
     ensures durable { D.tells ≡ true → result ≡ Kept.Kept → Only (D.seen disk.new) (D.may_leave disk.new) }
     ensures any_moment { D.tells ≡ true → LeavesOnly D.moment D.left_since disk.old disk.new
-        (ShutOrStaged (D.seen disk.old) gate piece.now) }
-    ensures ran { RunsCalls D.wrote D.synced (appending gate piece.now) disk.old result disk.new }
+        (ShutOrStaged (D.seen disk.old) commit piece.now) }
+    ensures ran { RunsCalls D.wrote D.synced (appending commit piece.now) disk.old result disk.new }
     ensures sound { D.sound disk.old → (result ≢ Kept.Failed) × D.sound disk.new }
     ensures cause { result ≡ Kept.Failed → Rose (D.faults disk.old) (D.faults disk.new) }
     ensures never_falls { D.faults disk.old ≤ D.faults disk.new }
 {
-    match keep(disk, gate + 1, piece) {
-        Kept::Kept => keep(disk, gate, &[1]),
+    match keep(disk, commit + 1, piece) {
+        Kept::Kept => keep(disk, commit, &[1]),
         refused => refused,
     }
 }

@@ -40,8 +40,8 @@ between_two start end xs ys =
 
 -- ---- run after run
 
-pub run_more : {A : Type 0} (n : ℕ) (xs old front after : List A) → front ≡ old ++ take (n * 64) xs → after ≡ front ++ take 64 (drop (n * 64) xs) → after ≡ old ++ take ((n + 1) * 64) xs
-run_more n xs old front after before is =
+pub run_more : {A : Type 0} (n : ℕ) (xs old prefix after : List A) → prefix ≡ old ++ take (n * 64) xs → after ≡ prefix ++ take 64 (drop (n * 64) xs) → after ≡ old ++ take ((n + 1) * 64) xs
+run_more n xs old prefix after before is =
     let more : n * 64 + 64 ≡ (n + 1) * 64 = omega arith in
     is
     ∙ ap (λ (l : List _). l ++ take 64 (drop (n * 64) xs)) before
@@ -49,9 +49,9 @@ run_more n xs old front after before is =
     ∙ ap (λ (l : List _). old ++ l) (sym (take-add (n * 64) 64 xs) ∙ ap (λ (k : ℕ). take k xs) more)
 
 -- what was taken from the tail stands in front of it
-pub moved : {A : Type 0} (n : ℕ) (front tail now left : List A) → now ≡ front ++ take n tail → left ≡ drop n tail → now ++ left ≡ front ++ tail
-moved n front tail now left a b =
-    (λ i. a i ++ b i) ∙ append_assoc front (take n tail) (drop n tail) ∙ ap (λ (l : List _). front ++ l) (take-append-drop n tail)
+pub moved : {A : Type 0} (n : ℕ) (prefix tail now left : List A) → now ≡ prefix ++ take n tail → left ≡ drop n tail → now ++ left ≡ prefix ++ tail
+moved n prefix tail now left a b =
+    (λ i. a i ++ b i) ∙ append_assoc prefix (take n tail) (drop n tail) ∙ ap (λ (l : List _). prefix ++ l) (take-append-drop n tail)
 
 -- ---- one more
 
@@ -80,8 +80,8 @@ as_far start end count xs is = elim (cases_lt end (length xs)) [
 ]
 
 -- as far as the end of a first part
-pub between_front : {A : Type 0} (start end : ℕ) (xs ys : List A) → take (min end (length xs) - start) (drop start (xs ++ ys)) ≡ take (end - start) (drop start xs)
-between_front start end xs ys =
+pub between_prefix : {A : Type 0} (start end : ℕ) (xs ys : List A) → take (min end (length xs) - start) (drop start (xs ++ ys)) ≡ take (end - start) (drop start xs)
+between_prefix start end xs ys =
     let last = min end (length xs) in
     let none : (last - length xs) - (start - length xs) ≡ 0 = omega arith in
     let rest : take ((last - length xs) - (start - length xs)) (drop (start - length xs) ys) ≡ [] = rw none refl in

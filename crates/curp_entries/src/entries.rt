@@ -2,20 +2,20 @@ ghost use Rattle.std.specs.Prelude.{◌≡◌, ◌+◌, ◌-◌, ◌<◌, ◌≤
 ghost use Rattle.std.specs.Option.{option_copied};
 ghost use Rattle.curp_entries.specs.Packed.{IsPackedPart, IsShortTail};
 ghost use Rattle.curp_entries.specs.Requests.{request_at};
-ghost use Rattle.curp_items.specs.Spelling.{request_of};
+ghost use Rattle.curp_items.specs.Encoding.{request_of};
 
-use crate::front::Front;
+use crate::prefix::Prefix;
 use crate::runs::{last_run, leave, push_runs};
 use curp_base::{NoMemory, copies_of, past};
 use curp_cmd::{Entry, Request};
 use std::alloc::{AllocError, Global};
 use std::marker::Model;
 
-/// The entries of a log: the oldest as their spellings, the newest as they are. Contracts see all entries, how many of them
+/// The entries of a log: the oldest as their encodings, the newest as they are. Contracts see all entries, how many of them
 /// are packed, and for how many more there is room.
 pub struct PackedEntries {
     alloc: Global,
-    front: Front,
+    prefix: Prefix,
     // The last of those that are packed as they were before, so that copies of them share what they share.
     recent: Vec<Entry>,
     tail: Vec<Entry>,
@@ -25,7 +25,7 @@ impl Drop for PackedEntries {
     fn drop(self) {
         let PackedEntries {
             alloc: _,
-            front: _,
+            prefix: _,
             recent: _,
             tail: _,
         } = self;
@@ -39,12 +39,12 @@ impl Model for PackedEntries {
     ghost Value = { EntryList };
 
     ghost view = { λ e. record {
-      entries = e.front ++ e.tail.items;
-      packed = length e.front;
-      spare = min (vec_capacity e.tail - vec_len e.tail) (2 ^ 63 - 1 - length (e.front ++ e.tail.items));
+      entries = e.prefix ++ e.tail.items;
+      packed = length e.prefix;
+      spare = min (vec_capacity e.tail - vec_len e.tail) (2 ^ 63 - 1 - length (e.prefix ++ e.tail.items));
     } };
 
-    ghost invariant = { λ e. AreHeld e.front e.recent.items e.tail.items };
+    ghost invariant = { λ e. AreHeld e.prefix e.recent.items e.tail.items };
 }
 
 impl PackedEntries {
@@ -54,7 +54,7 @@ impl PackedEntries {
     {
         PackedEntries {
             alloc,
-            front: Front::new(alloc),
+            prefix: Prefix::new(alloc),
             recent: Vec::new(alloc),
             tail: Vec::new(alloc),
         }
@@ -78,7 +78,7 @@ impl PackedEntries {
         ensures short { OnOk result (IsShortTail (drop self.new.packed self.new.entries)) }
         ensures kept { self.old.spare ≤ self.new.spare }
     {
-        let (count, packed) = push_runs(&mut self.front, &self.tail);
+        let (count, packed) = push_runs(&mut self.prefix, &self.tail);
         if count > 0 {
             self.recent = last_run(self.alloc, &self.tail[..count]);
             leave(&mut self.tail, count);
@@ -112,15 +112,15 @@ impl PackedEntries {
         ensures small { length self.now.entries < 2 ^ 63 }
         ensures packed { self.now.packed ≤ length self.now.entries }
     {
-        self.front.len() + self.tail.len() as u64
+        self.prefix.len() + self.tail.len() as u64
     }
 
-    /// How many of the oldest entries are packed, and their spellings, one behind the other.
+    /// How many of the oldest entries are packed, and their encodings, one behind the other.
     pub fn packed(&self) -> (u64, &[u8])
         ensures count { result.0 ≡ self.now.packed }
         ensures part { IsPackedPart self.now.entries result.0 result.1.now }
     {
-        (self.front.len(), self.front.as_bytes())
+        (self.prefix.len(), self.prefix.as_bytes())
     }
 
     /// An entry that isn't packed, if one stands at that index.
@@ -128,7 +128,7 @@ impl PackedEntries {
         ensures { option_copied result
             ≡ (if nat_lt index self.now.packed then None else slice_get self.now.entries index) }
     {
-        let behind = index.checked_sub(self.front.len())?;
+        let behind = index.checked_sub(self.prefix.len())?;
         self.tail.get(behind as usize)
     }
 
@@ -136,8 +136,8 @@ impl PackedEntries {
     pub fn request(&self, index: u64) -> Option<Request>
         ensures { result ≡ request_at (slice_get self.now.entries index) }
     {
-        match index.checked_sub(self.front.len()) {
-            None => self.front.request(index),
+        match index.checked_sub(self.prefix.len()) {
+            None => self.prefix.request(index),
             Some(behind) => request_of(self.tail.get(behind as usize)?),
         }
     }
@@ -146,8 +146,8 @@ impl PackedEntries {
     pub fn entry(&self, index: u64) -> Result<Option<Entry>, NoMemory>
         ensures { IfOk result (λ entry. entry ≡ slice_get self.now.entries index) }
     {
-        let Some(behind) = index.checked_sub(self.front.len()) else {
-            return self.front.entry(index);
+        let Some(behind) = index.checked_sub(self.prefix.len()) else {
+            return self.prefix.entry(index);
         };
         match self.tail.get(behind as usize) {
             Some(entry) => Ok(Some(entry.copy(self.alloc)?)),
@@ -166,12 +166,12 @@ impl PackedEntries {
     pub fn between(&self, start: u64, end: u64) -> Result<Vec<Entry>, NoMemory>
         ensures { IfOk result (λ entries. entries.items ≡ take (end - start) (drop start self.now.entries)) }
     {
-        let packed = self.front.len();
+        let packed = self.prefix.len();
         let first = packed - self.recent.len() as u64;
         let recent = part(&self.recent, first, start, end);
         let tail = part(&self.tail, packed, start, end);
         let spare = recent.len().saturating_add(tail.len());
-        let mut entries = self.front.between(start, end.min(first), spare)?;
+        let mut entries = self.prefix.between(start, end.min(first), spare)?;
         let mut copies = copies_of(self.alloc, recent)?;
         entries.append(&mut copies)?;
         let mut copies = copies_of(self.alloc, tail)?;

@@ -2,21 +2,21 @@
 ghost use Rattle.std.specs.Prelude.{◌≡◌, ◌↔◌, ◌≤◌, ◌++◌, IsTrue, take, drop, length, vec_capacity, IfNone, IfSome, OnOk};
 ghost use Rattle.curp_base.specs.Words.{Each};
 ghost use Rattle.curp_cmd.specs.declared.entry.Entry.{Entry};
-ghost use Rattle.curp_items.specs.Spelling.{HasSpelling};
+ghost use Rattle.curp_items.specs.Encoding.{HasEncoding};
 ghost use Rattle.curp_entries.specs.EntryList.{AreLast};
 ghost use Rattle.curp_entries.specs.Packed.{IsShortTail, run};
 
-use crate::front::{Front, RUN};
-use crate::spelled::has_spelling;
+use crate::prefix::{Prefix, RUN};
+use crate::encoded::has_encoding;
 use curp_base::{NoMemory, copies_of, past};
 use curp_cmd::Entry;
 use std::alloc::Global;
 
 /// Packs the oldest entries of a tail, a run after the other, as long as the tail that is left isn't short, and tells how many
 /// were packed, also where memory was wanting.
-pub(crate) fn push_runs(front: &mut Front, tail: &[Entry]) -> (usize, Result<(), NoMemory>)
+pub(crate) fn push_runs(prefix: &mut Prefix, tail: &[Entry]) -> (usize, Result<(), NoMemory>)
     ensures within { result.0 ≤ length tail.now }
-    ensures front { front.new ≡ front.old ++ take result.0 tail.now }
+    ensures prefix { prefix.new ≡ prefix.old ++ take result.0 tail.now }
     ensures short { OnOk result.1 (IsShortTail (drop result.0 tail.now)) }
 {
     for runs in 0..tail.len() / RUN {
@@ -24,7 +24,7 @@ pub(crate) fn push_runs(front: &mut Front, tail: &[Entry]) -> (usize, Result<(),
         let Some(run) = next_run(past(tail, count as u64)) else {
             return (count, Ok(()));
         };
-        if let Err(error) = front.push_run(run) {
+        if let Err(error) = prefix.push_run(run) {
             return (count, Err(error));
         }
     }
@@ -36,24 +36,24 @@ fn next_run(tail: &[Entry]) -> Option<&[Entry]>
     ensures short { IfNone result (IsShortTail tail.now) }
     ensures oldest { IfSome result (λ oldest. oldest.now ≡ take run tail.now) }
     ensures length { IfSome result (λ oldest. length oldest.now ≡ run) }
-    ensures spelled { IfSome result (λ oldest. Each HasSpelling oldest.now) }
+    ensures encoded { IfSome result (λ oldest. Each HasEncoding oldest.now) }
 {
     if tail.len() < 2 * RUN {
         return None;
     }
     let oldest = &tail[..RUN];
-    if are_spelled(oldest) {
+    if are_encoded(oldest) {
         Some(oldest)
     } else {
         None
     }
 }
 
-/// Whether each of the entries has a spelling.
-fn are_spelled(entries: &[Entry]) -> bool
-    ensures { IsTrue result ↔ Each HasSpelling entries.now }
+/// Whether each of the entries has a encoding.
+fn are_encoded(entries: &[Entry]) -> bool
+    ensures { IsTrue result ↔ Each HasEncoding entries.now }
 {
-    entries.iter().all(has_spelling)
+    entries.iter().all(has_encoding)
 }
 
 /// Copies of the last run of entries, or of none where memory is wanting.

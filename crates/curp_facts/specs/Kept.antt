@@ -110,7 +110,7 @@ LogsAreLogs w = (l : Lists) → IsGiven w l → (its : Logged) → HasLog w l.ma
 pub record FollowsLog (w : World) (l : Lists) (b : BackupState) : Type 0 where
   pub its : Logged
   pub its_log : HasLog w l.master its
-  pub front : IsPrefix b.log its.log
+  pub prefix : IsPrefix b.log its.log
 
 -- which knows no more of the backup than there is, and of no round that it hasn't begun
 pub record KnowsNoMore (w : World) (l : Lists) (node : NodeId) (b : BackupState) : Type 0 where

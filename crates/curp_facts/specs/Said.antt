@@ -142,12 +142,12 @@ IsOrderedTo w master Has = (order : Recover) × WasSent w (says manager_node mas
 pub record RecoveredSaid (w : World) (from : NodeId) (r : Recovered) : Type 0 where
   pub holds : RecoveredOk w from r.epoch
   pub its_part : holds.order.part ≡ r.part
-  pub front : List Entry
-  pub is_replay : front ≡ replay_of holds.order.lo holds.order.hi holds.sources
+  pub prefix : List Entry
+  pub is_replay : prefix ≡ replay_of holds.order.lo holds.order.hi holds.sources
   pub l : Logged
   pub its_log : HasLog w from l
-  pub began : IsPrefix front l.log
-  pub reach : Reach w from holds.order.version (length front)
+  pub began : IsPrefix prefix l.log
+  pub reach : Reach w from holds.order.version (length prefix)
 
 -- ---- from backups and witnesses
 

@@ -13,5 +13,5 @@ pub record StoredNow (w : World) (part : ℕ) (log : List Entry) (index : ℕ) :
   pub entry : PartConfig
   pub its : AdoptedLog w entry
   pub its_part : entry.part ≡ part
-  pub front : IsPrefix (take (index + 1) log) its.its.log
+  pub prefix : IsPrefix (take (index + 1) log) its.its.log
   pub stored : AllStored w entry (index + 1)

@@ -1,4 +1,4 @@
--- Each format of the table of messages reads what it spells, and spells what it reads.
+-- Each format of the table of messages reads what it encodes, and encodes what it reads.
 use Rattle.std.proofs.Common.{◌≡◌, ℕ, refl}
 use Rattle.std.proofs.lemmas.Bool.{le-leb, leb-true}
 use Rattle.curp_base.specs.Words.{last_of}
@@ -13,7 +13,7 @@ use Rattle.curp_msg.specs.declared.answer.Reason.TheVariants as reason
 use Rattle.curp_msg.specs.declared.answer.Refusal.TheVariants as refusal
 use Rattle.curp_msg.specs.declared.body.Body.TheVariants as body
 use Rattle.curp_range.specs.Spans.{Span, SpansAscend}
-use Rattle.curp_fields.proofs.SpanLists.{spans-front, spans-last, spans-push}
+use Rattle.curp_fields.proofs.SpanLists.{spans-prefix, spans-last, spans-push}
 use Rattle.curp_fields.specs.Fields.{accepted_fields, accepted_made, accepted_parts, adopted_fields, adopted_made, adopted_parts, append_answer, append_fields, append_fields_of, append_made, append_parts, append_variants, appended_fields, appended_made, appended_parts, ask_fields, ask_made, ask_parts, body_parts, body_variants, collected_fields, collected_made, collected_parts, collection_answer, collection_parts, collection_variants, config_fields, config_made, config_parts, entries, fence_answer_fields, fence_answer_made, fence_answer_parts, fence_parts, fence_reply, fence_variants, gc_fields, gc_made, gc_parts, ids, least_after, nodes, parcel_fields, parcel_made, parcel_parts, part_fields, part_made, part_parts, prepare_fields, prepare_made, prepare_parts, probe_fields, probe_made, probe_parts, probed_fields, probed_made, probed_parts, quick_fields, quick_made, quick_parts, reason_format, reason_parts, reason_variants, record_fields, record_made, record_parts, recover_fields, recover_made, recover_parts, recovered_fields, recovered_made, recovered_parts, refusal_format, refusal_parts, refusal_variants, refuse_fields, refuse_made, refuse_parts, rejected_fields, rejected_made, rejected_parts, reply_fields, reply_made, reply_parts, requests, span_from, spans, start_fields, start_made, start_parts, take_out_fields, take_out_made, take_out_parts, worth_fields, worth_made, worth_parts}
 
 pub ids_are : IsFormat ids
@@ -161,7 +161,7 @@ spans_order : IsOrder (u64 ▸ u64) SpansAscend (λ before. span_from (least_aft
 unfolding span_from u64
 spans_order = record {
   empty = tt;
-  front = spans-front;
+  prefix = spans-prefix;
   grows = λ before s asc f. ((f.0.0, f.1.0), spans-push before s asc (leb-true _ _ f.0.1) (leb-true _ _ f.1.1) f.1.0);
   shrinks = λ before s asc f.
       let l = spans-last before s asc in

@@ -36,12 +36,12 @@ within-push f t (x ∷ xs) s a l o b = (a.0, a.1, a.2, within-push (x.1 + 2) t x
 pub spans-push : (xs : List Span) (s : Span) → SpansAscend xs → least_after (last_of xs) ≤ s.0 → s.0 ≤ s.1 → s.1 < 2 ^ 64 → SpansAscend (xs ++ s ∷ [])
 spans-push xs s a l o b = within-push 0 (2 ^ 64) xs s a (subst (λ (n : ℕ). n ≤ s.0) (sym (least_is xs)) l) o b
 
-within-front : (f t : ℕ) (xs ys : List Span) → AscendWithin f t (xs ++ ys) → AscendWithin f t xs
-within-front f t [] ys a = tt
-within-front f t (x ∷ xs) ys a = (a.0, a.1, a.2, within-front (x.1 + 2) t xs ys a.3)
+within-prefix : (f t : ℕ) (xs ys : List Span) → AscendWithin f t (xs ++ ys) → AscendWithin f t xs
+within-prefix f t [] ys a = tt
+within-prefix f t (x ∷ xs) ys a = (a.0, a.1, a.2, within-prefix (x.1 + 2) t xs ys a.3)
 
-pub spans-front : (xs ys : List Span) → SpansAscend (xs ++ ys) → SpansAscend xs
-spans-front xs ys a = within-front 0 (2 ^ 64) xs ys a
+pub spans-prefix : (xs ys : List Span) → SpansAscend (xs ++ ys) → SpansAscend xs
+spans-prefix xs ys a = within-prefix 0 (2 ^ 64) xs ys a
 
 within-last : (f t : ℕ) (xs : List Span) (s : Span) → AscendWithin f t (xs ++ s ∷ []) → (least_from f xs ≤ s.0) × (s.0 ≤ s.1) × (s.1 < t)
 within-last f t [] s a = (a.0, a.1, a.2)

@@ -1,3 +1,3 @@
 pub mod Fields
-pub mod Spelled
-pub mod Spelling
+pub mod Encoded
+pub mod Encoding

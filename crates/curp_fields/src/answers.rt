@@ -11,7 +11,7 @@ impl Part for Refusal {
 
     ghost format = { refusal_format };
 
-    ghost HasSpelling = { λ _. ⊤ };
+    ghost HasEncoding = { λ _. ⊤ };
 
     #[tactic(auto, unfolding(crate::specs::Fields::refusal_format))]
     fn write(&self, out: &mut Writer) -> Result<(), NoMemory> {
@@ -62,7 +62,7 @@ impl Part for Reason {
 
     ghost format = { reason_format };
 
-    ghost HasSpelling = { λ _. ⊤ };
+    ghost HasEncoding = { λ _. ⊤ };
 
     #[tactic(auto, unfolding(crate::specs::Fields::reason_format))]
     fn write(&self, out: &mut Writer) -> Result<(), NoMemory> {
@@ -109,7 +109,7 @@ impl Part for AppendAnswer {
 
     ghost format = { append_answer };
 
-    ghost HasSpelling = { λ _. ⊤ };
+    ghost HasEncoding = { λ _. ⊤ };
 
     #[tactic(auto, unfolding(crate::specs::Fields::append_answer))]
     fn write(&self, out: &mut Writer) -> Result<(), NoMemory> {
@@ -151,11 +151,11 @@ impl Part for AppendAnswer {
 
 impl Part for GcAnswer {
     ghost use Rattle.curp_fields.specs.Fields.{collection_answer};
-    ghost use Rattle.curp_fields.specs.Spelling.{IsCollection};
+    ghost use Rattle.curp_fields.specs.Encoding.{IsCollection};
 
     ghost format = { collection_answer };
 
-    ghost HasSpelling = { IsCollection };
+    ghost HasEncoding = { IsCollection };
 
     #[tactic(auto, unfolding(crate::specs::Fields::collection_answer, crate::specs::Fields::requests))]
     fn write(&self, out: &mut Writer) -> Result<(), NoMemory> {
@@ -186,11 +186,11 @@ impl Part for GcAnswer {
 
 impl Part for FenceReply {
     ghost use Rattle.curp_fields.specs.Fields.{fence_reply};
-    ghost use Rattle.curp_fields.specs.Spelling.{IsFenceReply};
+    ghost use Rattle.curp_fields.specs.Encoding.{IsFenceReply};
 
     ghost format = { fence_reply };
 
-    ghost HasSpelling = { IsFenceReply };
+    ghost HasEncoding = { IsFenceReply };
 
     #[tactic(auto, unfolding(crate::specs::Fields::fence_reply, crate::specs::Fields::entries))]
     fn write(&self, out: &mut Writer) -> Result<(), NoMemory> {

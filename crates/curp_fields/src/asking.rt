@@ -12,7 +12,7 @@ impl Part for Ask {
 
     ghost format = { ask_fields };
 
-    ghost HasSpelling = { λ _. ⊤ };
+    ghost HasEncoding = { λ _. ⊤ };
 
     #[tactic(auto, unfolding(crate::specs::Fields::ask_fields))]
     fn write(&self, out: &mut Writer) -> Result<(), NoMemory> {
@@ -36,7 +36,7 @@ impl Part for Record {
 
     ghost format = { record_fields };
 
-    ghost HasSpelling = { λ _. ⊤ };
+    ghost HasEncoding = { λ _. ⊤ };
 
     #[tactic(auto, unfolding(crate::specs::Fields::record_fields))]
     fn write(&self, out: &mut Writer) -> Result<(), NoMemory> {
@@ -58,7 +58,7 @@ impl Part for Reply {
 
     ghost format = { reply_fields };
 
-    ghost HasSpelling = { λ _. ⊤ };
+    ghost HasEncoding = { λ _. ⊤ };
 
     #[tactic(auto, unfolding(crate::specs::Fields::reply_fields))]
     fn write(&self, out: &mut Writer) -> Result<(), NoMemory> {
@@ -86,7 +86,7 @@ impl Part for Worth {
 
     ghost format = { worth_fields };
 
-    ghost HasSpelling = { λ _. ⊤ };
+    ghost HasEncoding = { λ _. ⊤ };
 
     #[tactic(auto, unfolding(crate::specs::Fields::worth_fields))]
     fn write(&self, out: &mut Writer) -> Result<(), NoMemory> {
@@ -112,7 +112,7 @@ impl Part for Refuse {
 
     ghost format = { refuse_fields };
 
-    ghost HasSpelling = { λ _. ⊤ };
+    ghost HasEncoding = { λ _. ⊤ };
 
     #[tactic(auto, unfolding(crate::specs::Fields::refuse_fields))]
     fn write(&self, out: &mut Writer) -> Result<(), NoMemory> {
@@ -134,7 +134,7 @@ impl Part for Accepted {
 
     ghost format = { accepted_fields };
 
-    ghost HasSpelling = { λ _. ⊤ };
+    ghost HasEncoding = { λ _. ⊤ };
 
     #[tactic(auto, unfolding(crate::specs::Fields::accepted_fields))]
     fn write(&self, out: &mut Writer) -> Result<(), NoMemory> {
@@ -156,7 +156,7 @@ impl Part for Rejected {
 
     ghost format = { rejected_fields };
 
-    ghost HasSpelling = { λ _. ⊤ };
+    ghost HasEncoding = { λ _. ⊤ };
 
     #[tactic(auto, unfolding(crate::specs::Fields::rejected_fields))]
     fn write(&self, out: &mut Writer) -> Result<(), NoMemory> {
@@ -178,7 +178,7 @@ impl Part for Probe {
 
     ghost format = { probe_fields };
 
-    ghost HasSpelling = { λ _. ⊤ };
+    ghost HasEncoding = { λ _. ⊤ };
 
     #[tactic(auto, unfolding(crate::specs::Fields::probe_fields))]
     fn write(&self, out: &mut Writer) -> Result<(), NoMemory> {
@@ -200,7 +200,7 @@ impl Part for Probed {
 
     ghost format = { probed_fields };
 
-    ghost HasSpelling = { λ _. ⊤ };
+    ghost HasEncoding = { λ _. ⊤ };
 
     #[tactic(auto, unfolding(crate::specs::Fields::probed_fields))]
     fn write(&self, out: &mut Writer) -> Result<(), NoMemory> {
@@ -224,7 +224,7 @@ impl Part for Quick {
 
     ghost format = { quick_fields };
 
-    ghost HasSpelling = { λ _. ⊤ };
+    ghost HasEncoding = { λ _. ⊤ };
 
     #[tactic(auto, unfolding(crate::specs::Fields::quick_fields))]
     fn write(&self, out: &mut Writer) -> Result<(), NoMemory> {

@@ -13,11 +13,11 @@ use std::alloc::Global;
 
 impl Part for Config {
     ghost use Rattle.curp_fields.specs.Fields.{config_fields};
-    ghost use Rattle.curp_fields.specs.Spelling.{IsConfig};
+    ghost use Rattle.curp_fields.specs.Encoding.{IsConfig};
 
     ghost format = { config_fields };
 
-    ghost HasSpelling = { IsConfig };
+    ghost HasEncoding = { IsConfig };
 
     #[tactic(auto, unfolding(crate::specs::Fields::config_fields))]
     fn write(&self, out: &mut Writer) -> Result<(), NoMemory> {
@@ -36,11 +36,11 @@ impl Part for Config {
 
 impl Part for PartConfig {
     ghost use Rattle.curp_fields.specs.Fields.{part_fields};
-    ghost use Rattle.curp_fields.specs.Spelling.{IsPart};
+    ghost use Rattle.curp_fields.specs.Encoding.{IsPart};
 
     ghost format = { part_fields };
 
-    ghost HasSpelling = { IsPart };
+    ghost HasEncoding = { IsPart };
 
     #[tactic(auto, unfolding(crate::specs::Fields::part_fields, crate::specs::Fields::nodes))]
     fn write(&self, out: &mut Writer) -> Result<(), NoMemory> {
@@ -68,11 +68,11 @@ impl Part for PartConfig {
 }
 
 impl Part for Spans {
-    ghost use Rattle.curp_fields.specs.Spelling.{IsShort};
+    ghost use Rattle.curp_fields.specs.Encoding.{IsShort};
 
     ghost format = { spans };
 
-    ghost HasSpelling = { IsShort };
+    ghost HasEncoding = { IsShort };
 
     #[tactic(auto, unfolding(crate::specs::Fields::spans))]
     fn write(&self, out: &mut Writer) -> Result<(), NoMemory> {

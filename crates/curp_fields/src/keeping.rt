@@ -9,11 +9,11 @@ use std::alloc::Global;
 
 impl Part for Append {
     ghost use Rattle.curp_fields.specs.Fields.{append_fields};
-    ghost use Rattle.curp_fields.specs.Spelling.{AreEntries};
+    ghost use Rattle.curp_fields.specs.Encoding.{AreEntries};
 
     ghost format = { append_fields };
 
-    ghost HasSpelling = { λ append. AreEntries append.entries };
+    ghost HasEncoding = { λ append. AreEntries append.entries };
 
     #[tactic(auto, unfolding(crate::specs::Fields::append_fields, crate::specs::Fields::entries))]
     fn write(&self, out: &mut Writer) -> Result<(), NoMemory> {
@@ -39,7 +39,7 @@ impl Part for Appended {
 
     ghost format = { appended_fields };
 
-    ghost HasSpelling = { λ _. ⊤ };
+    ghost HasEncoding = { λ _. ⊤ };
 
     #[tactic(auto, unfolding(crate::specs::Fields::appended_fields))]
     fn write(&self, out: &mut Writer) -> Result<(), NoMemory> {
@@ -60,11 +60,11 @@ impl Part for Appended {
 
 impl Part for Gc {
     ghost use Rattle.curp_fields.specs.Fields.{gc_fields};
-    ghost use Rattle.curp_fields.specs.Spelling.{IsShort};
+    ghost use Rattle.curp_fields.specs.Encoding.{IsShort};
 
     ghost format = { gc_fields };
 
-    ghost HasSpelling = { λ gc. IsShort gc.ids };
+    ghost HasEncoding = { λ gc. IsShort gc.ids };
 
     #[tactic(auto, unfolding(crate::specs::Fields::gc_fields, crate::specs::Fields::ids))]
     fn write(&self, out: &mut Writer) -> Result<(), NoMemory> {
@@ -83,11 +83,11 @@ impl Part for Gc {
 
 impl Part for Collected {
     ghost use Rattle.curp_fields.specs.Fields.{collected_fields};
-    ghost use Rattle.curp_fields.specs.Spelling.{IsCollection};
+    ghost use Rattle.curp_fields.specs.Encoding.{IsCollection};
 
     ghost format = { collected_fields };
 
-    ghost HasSpelling = { λ collected. IsCollection collected.answer };
+    ghost HasEncoding = { λ collected. IsCollection collected.answer };
 
     #[tactic(auto, unfolding(crate::specs::Fields::collected_fields))]
     fn write(&self, out: &mut Writer) -> Result<(), NoMemory> {
@@ -106,11 +106,11 @@ impl Part for Collected {
 
 impl Part for FenceAnswer {
     ghost use Rattle.curp_fields.specs.Fields.{fence_answer_fields};
-    ghost use Rattle.curp_fields.specs.Spelling.{IsFenceReply};
+    ghost use Rattle.curp_fields.specs.Encoding.{IsFenceReply};
 
     ghost format = { fence_answer_fields };
 
-    ghost HasSpelling = { λ fenced. IsFenceReply fenced.answer };
+    ghost HasEncoding = { λ fenced. IsFenceReply fenced.answer };
 
     #[tactic(auto, unfolding(crate::specs::Fields::fence_answer_fields))]
     fn write(&self, out: &mut Writer) -> Result<(), NoMemory> {

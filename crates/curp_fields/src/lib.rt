@@ -1,7 +1,7 @@
 //! The fields of each body as bytes: the table of messages below their frames.
 //!
 //! `Fields.antt` is the table: a tag and a list of fields for each body, over the formats of `curp_items`. `Part` is what
-//! has fields: `write` and `read` are exact over the part's format, and `HasSpelling` says which parts have a spelling.
+//! has fields: `write` and `read` are exact over the part's format, and `HasEncoding` says which parts have a encoding.
 //! `has_fields` is the test of that for a body. `curp_wire` makes frames of these.
 #![tactic(auto)]
 
@@ -11,7 +11,7 @@ mod config;
 mod keeping;
 mod managing;
 mod part;
-mod spelled;
+mod encoded;
 
 pub use part::{Part, read_parts, write_parts};
-pub use spelled::has_fields;
+pub use encoded::has_fields;

@@ -14,7 +14,7 @@ impl Part for Start {
 
     ghost format = { start_fields };
 
-    ghost HasSpelling = { λ _. ⊤ };
+    ghost HasEncoding = { λ _. ⊤ };
 
     #[tactic(auto, unfolding(crate::specs::Fields::start_fields))]
     fn write(&self, out: &mut Writer) -> Result<(), NoMemory> {
@@ -36,7 +36,7 @@ impl Part for Recovered {
 
     ghost format = { recovered_fields };
 
-    ghost HasSpelling = { λ _. ⊤ };
+    ghost HasEncoding = { λ _. ⊤ };
 
     #[tactic(auto, unfolding(crate::specs::Fields::recovered_fields))]
     fn write(&self, out: &mut Writer) -> Result<(), NoMemory> {
@@ -58,7 +58,7 @@ impl Part for Adopted {
 
     ghost format = { adopted_fields };
 
-    ghost HasSpelling = { λ _. ⊤ };
+    ghost HasEncoding = { λ _. ⊤ };
 
     #[tactic(auto, unfolding(crate::specs::Fields::adopted_fields))]
     fn write(&self, out: &mut Writer) -> Result<(), NoMemory> {
@@ -79,11 +79,11 @@ impl Part for Adopted {
 
 impl Part for Recover {
     ghost use Rattle.curp_fields.specs.Fields.{recover_fields};
-    ghost use Rattle.curp_fields.specs.Spelling.{IsRecover};
+    ghost use Rattle.curp_fields.specs.Encoding.{IsRecover};
 
     ghost format = { recover_fields };
 
-    ghost HasSpelling = { IsRecover };
+    ghost HasEncoding = { IsRecover };
 
     #[tactic(auto, unfolding(crate::specs::Fields::recover_fields, crate::specs::Fields::nodes, curp_items::specs::Items::bounds))]
     fn write(&self, out: &mut Writer) -> Result<(), NoMemory> {
@@ -127,11 +127,11 @@ impl Part for Recover {
 
 impl Part for Prepare {
     ghost use Rattle.curp_fields.specs.Fields.{prepare_fields};
-    ghost use Rattle.curp_fields.specs.Spelling.{IsPrepare};
+    ghost use Rattle.curp_fields.specs.Encoding.{IsPrepare};
 
     ghost format = { prepare_fields };
 
-    ghost HasSpelling = { IsPrepare };
+    ghost HasEncoding = { IsPrepare };
 
     #[tactic(auto, unfolding(crate::specs::Fields::prepare_fields, crate::specs::Fields::nodes))]
     fn write(&self, out: &mut Writer) -> Result<(), NoMemory> {
@@ -155,7 +155,7 @@ impl Part for TakeOut {
 
     ghost format = { take_out_fields };
 
-    ghost HasSpelling = { λ _. ⊤ };
+    ghost HasEncoding = { λ _. ⊤ };
 
     #[tactic(auto, unfolding(crate::specs::Fields::take_out_fields, curp_items::specs::Items::bounds))]
     fn write(&self, out: &mut Writer) -> Result<(), NoMemory> {
@@ -180,12 +180,12 @@ impl Part for TakeOut {
 }
 
 impl Part for Parcel {
-    ghost use Rattle.curp_items.specs.Spelling.{HasPackageSpelling};
+    ghost use Rattle.curp_items.specs.Encoding.{HasPackageEncoding};
     ghost use Rattle.curp_fields.specs.Fields.{parcel_fields};
 
     ghost format = { parcel_fields };
 
-    ghost HasSpelling = { λ parcel. HasPackageSpelling parcel.package };
+    ghost HasEncoding = { λ parcel. HasPackageEncoding parcel.package };
 
     #[tactic(auto, unfolding(crate::specs::Fields::parcel_fields))]
     fn write(&self, out: &mut Writer) -> Result<(), NoMemory> {

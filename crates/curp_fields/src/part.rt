@@ -14,19 +14,19 @@ use std::alloc::Global;
 pub trait Part: Sized {
     ghost use Rattle.curp_items.specs.Format.{Format};
 
-    /// How it is spelled and read.
+    /// How it is encoded and read.
     ghost format: { Format Self };
 
-    /// Which values of the type have a spelling.
-    ghost HasSpelling: { Self → Type 0 };
+    /// Which values of the type have a encoding.
+    ghost HasEncoding: { Self → Type 0 };
 
-    /// Writes the part's spelling.
+    /// Writes the part's encoding.
     fn write(&self, out: &mut Writer) -> Result<(), NoMemory>
-        requires { HasSpelling self.now }
+        requires { HasEncoding self.now }
         ensures writes { WritesItem out.old out.new result (format.of self.now) }
         ensures fits { OnOk result (format.Fits self.now) };
 
-    /// Reads a part from the front.
+    /// Reads a part from the prefix.
     fn read(alloc: Global, reader: &mut Reader) -> Result<Self, ReadError>
         ensures { ReadsIfMemory result reader.new (format.read reader.old) };
 }
@@ -34,7 +34,7 @@ pub trait Part: Sized {
 impl<T: Part + Drop> Part for Boxed<T> {
     ghost format = { T.format };
 
-    ghost HasSpelling = { T.HasSpelling };
+    ghost HasEncoding = { T.HasEncoding };
 
     fn write(&self, out: &mut Writer) -> Result<(), NoMemory> {
         self.get().write(out)
@@ -51,7 +51,7 @@ impl Part for Shared<Request> {
 
     ghost format = { request };
 
-    ghost HasSpelling = { λ _. ⊤ };
+    ghost HasEncoding = { λ _. ⊤ };
 
     fn write(&self, out: &mut Writer) -> Result<(), NoMemory> {
         Item::write(&**self, out)
@@ -65,11 +65,11 @@ impl Part for Shared<Request> {
 
 impl Part for Entry {
     ghost use Rattle.curp_items.specs.Items.{entry};
-    ghost use Rattle.curp_items.specs.Spelling.{HasSpelling};
+    ghost use Rattle.curp_items.specs.Encoding.{HasEncoding};
 
     ghost format = { entry };
 
-    ghost HasSpelling = { HasSpelling };
+    ghost HasEncoding = { HasEncoding };
 
     fn write(&self, out: &mut Writer) -> Result<(), NoMemory> {
         write_entry(self, out)
@@ -83,7 +83,7 @@ impl Part for Entry {
 /// Writes how many parts there are, and they.
 pub fn write_parts<T: Part>(parts: &[T], out: &mut Writer) -> Result<(), NoMemory>
     requires short { length parts.now < 2 ^ 32 }
-    requires spelled { Each T.HasSpelling parts.now }
+    requires encoded { Each T.HasEncoding parts.now }
     ensures writes { WritesItem out.old out.new result ((list_of u32 T.format).of parts.now) }
     ensures fits { OnOk result ((list_of u32 T.format).Fits parts.now) }
 {

@@ -17,8 +17,8 @@ use Rattle.curp_filter.specs.Keeping.{DiskKind, HoldsUpTo, Keeps, Outlasts, Stan
 
 -- ---- journals of the first of some inputs
 
-pub up_to_front : (title : List ℕ) (inputs more rest : List Arrived) (content : List ℕ) → HoldsUpTo title inputs more content → HoldsUpTo title inputs (more ++ rest) content
-up_to_front title inputs more rest content h = record {
+pub up_to_prefix : (title : List ℕ) (inputs more rest : List Arrived) (content : List ℕ) → HoldsUpTo title inputs more content → HoldsUpTo title inputs (more ++ rest) content
+up_to_prefix title inputs more rest content h = record {
   kept = h.kept;
   first = record { rest = h.first.rest ++ rest; is = sym (append_assoc h.kept h.first.rest rest) ∙ ap (λ (l : List Arrived). l ++ rest) h.first.is };
   holds = h.holds;
@@ -76,18 +76,18 @@ module _ {N D : Type 0} (machine : N → Input → Moved N) (disk : DiskKind D) 
   pub outlasts_again : (more rest : List Arrived) (old mid new : DurableParts N D) → Outlasts machine disk more old mid → Keeps machine disk more old mid → (old.spent ≡ false → mid.spent ≡ false)
       → Outlasts machine disk rest mid new → Outlasts machine disk (more ++ rest) old new
   outlasts_again more rest old mid new first keeps goes second title opening inputs told fresh s =
-      let front = weaker disk.seen disk.may_leave disk.moment disk.left_since only_now old.disk mid.disk (HoldsUpTo title inputs more) (HoldsUpTo title inputs (more ++ rest))
-      (λ c. up_to_front title inputs more rest c) (first title opening inputs told fresh s) in
+      let prefix = weaker disk.seen disk.may_leave disk.moment disk.left_since only_now old.disk mid.disk (HoldsUpTo title inputs more) (HoldsUpTo title inputs (more ++ rest))
+      (λ c. up_to_prefix title inputs more rest c) (first title opening inputs told fresh s) in
       let back = weaker disk.seen disk.may_leave disk.moment disk.left_since only_now mid.disk new.disk (HoldsUpTo title (inputs ++ more) rest) (HoldsUpTo title inputs (more ++ rest))
       (λ c. up_to_back title inputs more rest c) (second title opening (inputs ++ more) told (goes fresh) (keeps title opening inputs told s)) in
-      chained disk.seen disk.may_leave disk.moment disk.left_since only_now old.disk mid.disk new.disk (HoldsUpTo title inputs (more ++ rest)) front back
+      chained disk.seen disk.may_leave disk.moment disk.left_since only_now old.disk mid.disk new.disk (HoldsUpTo title inputs (more ++ rest)) prefix back
 
   pub outlasts_none : (node : DurableParts N D) (more : List Arrived) → Outlasts machine disk more node node
   outlasts_none node more title opening inputs told fresh s = record {
     later = omega arith;
     each = λ c left.
         let is = s.durable c (only_now node.disk c left) in
-        up_to_none title inputs more c (record { batches = s.batches; gate = node.gate; all = s.all; reads = subst (λ (l : List ℕ). ReadsJournal l title s.batches node.gate) (sym is) s.reads });
+        up_to_none title inputs more c (record { batches = s.batches; commit = node.commit; all = s.all; reads = subst (λ (l : List ℕ). ReadsJournal l title s.batches node.commit) (sym is) s.reads });
     before = λ t c le left. inl left;
   }
 

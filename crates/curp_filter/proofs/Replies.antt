@@ -31,7 +31,7 @@ module _ {N D : Type 0} (machine : N → Input → Moved N) (disk : DiskKind D) 
   pub unanswered_silent : (cames : List Came) (number : ℕ) (old new : DurableParts N D) (sink : Outlet) (it : FilterEnd) → Outlasts machine disk (taken machine old.stand (arrivals_of cames)) old new
       → disk.faults old.disk ≤ disk.faults new.disk → Unanswered machine disk cames number old new sink sink it
   unanswered_silent cames number old new sink it outlasts faults = record {
-    part = λ told. record { part = []; front = record { rest = text_of machine old.stand number cames; is = refl }; added = sym (append-nil sink.held) };
+    part = λ told. record { part = []; prefix = record { rest = text_of machine old.stand number cames; is = refl }; added = sym (append-nil sink.held) };
     kept = inl refl;
     outlasts = outlasts;
     tells = λ told. told;

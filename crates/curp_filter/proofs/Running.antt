@@ -30,7 +30,7 @@ nothing_behind (x ∷ xs) ys none = absurd cc
 part_behind : (text rest old mid new : List ℕ) → mid ≡ old ++ text → HoldsPart mid new rest → HoldsPart old new (text ++ rest)
 part_behind text rest old mid new whole h = record {
   part = text ++ h.part;
-  front = record { rest = h.front.rest; is = append_assoc text h.part h.front.rest ∙ ap (λ (l : List ℕ). text ++ l) h.front.is };
+  prefix = record { rest = h.prefix.rest; is = append_assoc text h.part h.prefix.rest ∙ ap (λ (l : List ℕ). text ++ l) h.prefix.is };
   added = h.added ∙ ap (λ (l : List ℕ). l ++ h.part) whole ∙ append_assoc old text h.part;
 }
 

@@ -30,7 +30,7 @@ pub record HoldsUpTo (title : List ℕ) (inputs more : List Arrived) (content : 
 -- the disk has the node's journal, all of it kept
 abbrev pub Stands : {N D : Type 0} → (N → Input → Moved N) → DiskKind D → DurableParts N D → (title : List ℕ) → (opening : N) → List Arrived → Type 0
 Stands machine disk node title opening inputs =
-    IsSettled machine disk.seen disk.may_leave node.disk node.stand node.gate title opening inputs
+    IsSettled machine disk.seen disk.may_leave node.disk node.stand node.commit title opening inputs
 
 -- these are in the journal behind those that were there
 abbrev pub Keeps : {N D : Type 0} → (N → Input → Moved N) → DiskKind D → List Arrived → (old new : DurableParts N D) → Type 0

@@ -39,7 +39,7 @@ pub fn run_node<N: Core + Drop, D: Disk, S: Source, K: Sink>(
     ensures end { S.tells source.old ≡ true → result ≡ FilterEnd.End → S.left source.new ≡ [] }
     // Whatever ended it: what was written is a part of what is to be said of what came first, and a crash leaves no
     // less.
-    ensures front { AnswersFirst N.machine (kind D.tells D.seen D.may_leave D.moment D.left_since D.faults) role
+    ensures prefix { AnswersFirst N.machine (kind D.tells D.seen D.may_leave D.moment D.left_since D.faults) role
         node.old node.new
         (intake nothing_read (S.left source.old) (S.tells source.old) (S.faults source.old))
         (outlet (K.held sink.old) (K.tells sink.old) (K.faults sink.old) (K.flushed sink.old))

@@ -7,7 +7,7 @@
 //!
 //! - `answered`, `end`: where the input ends behind a parcel, all of it came, and the sink holds the text of all that
 //!   came.
-//! - `front`: whatever ended it, a part of the text of what came first was written, and a crash at any moment leaves
+//! - `prefix`: whatever ended it, a part of the text of what came first was written, and a crash at any moment leaves
 //!   the journal that was there, with the first of the inputs that the node took.
 //! - `runs`: up to some input each was answered whole: the node stands where its inputs led it, and the journal has
 //!   those that it took, in order (`Turned`). Of what came last a part of the text may be written, none of it before

@@ -8,7 +8,7 @@
 //!
 //! - `Fronts`, each clause `connections`: exact over these definitions. A call changes one connection, the answer to a
 //!   command that whose it is, and no other. What is said is `output_of`, the replies those of `curp_resp`.
-//! - At want of memory nothing has changed.
+//! - Out of memory, nothing has changed.
 //! - `laws`: whatever comes, a connection is told the replies to its requests in their order, each once (`InOrder`).
 #![tactic(auto)]
 

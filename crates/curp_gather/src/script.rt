@@ -12,7 +12,7 @@ use curp_msg::{Header, Step};
 use std::alloc::Global;
 
 /// The script that the journals of a header's nodes are. An error comes exactly by its cause, the first in the order of
-/// `GatherError`; want of memory comes before each. The header is there for the contract: how nodes begin by it is
+/// `GatherError`; running out of memory comes before each. The header is there for the contract: how nodes begin by it is
 /// what the journals show.
 pub fn gather(
     alloc: Global,

@@ -1,14 +1,14 @@
 ghost use Rattle.std.specs.Prelude.{◌≡◌, ◌↔◌, IsTrue, IfOk, MatchOption};
-ghost use Rattle.curp_fronts.specs.Ruled.{AreRuled};
+ghost use Rattle.curp_prefixes.specs.Ruled.{AreRuled};
 ghost use Rattle.curp_gather.specs.Journals.{journals_of};
 
 use curp_base::NoMemory;
-use curp_fronts::are_ruled;
+use curp_prefixes::are_ruled;
 use curp_gather::{Journals, strands_of};
 use std::alloc::Global;
 use std::marker::Model;
 
-/// The journals of a run in which what each node took of each other is the front of what that sent to it. Contracts see
+/// The journals of a run in which what each node took of each other is the prefix of what that sent to it. Contracts see
 /// the journals.
 #[derive(Drop)]
 pub struct Ruled {
@@ -16,7 +16,7 @@ pub struct Ruled {
 }
 
 impl Model for Ruled {
-    ghost use Rattle.curp_fronts.specs.Ruled.{AreRuled};
+    ghost use Rattle.curp_prefixes.specs.Ruled.{AreRuled};
     ghost use Rattle.curp_gather.specs.Journals.{journals_of};
     ghost use Rattle.curp_gather.specs.declared.journals.Journals.{Journals};
 

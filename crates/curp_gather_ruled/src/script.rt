@@ -7,13 +7,13 @@ ghost use Rattle.curp_gather_ruled.specs.Causes.{IsRuledCause};
 
 use crate::{Ruled, RuledError};
 use curp_base::NoMemory;
-use curp_fronts::ruled_journals_hold;
+use curp_prefixes::ruled_journals_hold;
 use curp_gather::{GatherError, gather_held, strands_of};
 use curp_msg::{Header, Step};
 use std::alloc::Global;
 
 /// The script that the ruled journals of a header's nodes are. An error comes exactly by its cause, the first in the
-/// order of `RuledError`; want of memory comes before each. There is no mismatch, since ruled journals hold each message
+/// order of `RuledError`; running out of memory comes before each. There is no mismatch, since ruled journals hold each message
 /// that came.
 pub fn gather_ruled(alloc: Global, header: &Header, ruled: &Ruled) -> Result<Vec<Step>, RuledError>
     requires { AreOf header.now ruled.now }

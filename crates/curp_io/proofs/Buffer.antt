@@ -53,16 +53,16 @@ pub part_behind : (xs ahead : List ℕ) (start end from : ℕ) → start ≤ end
 part_behind xs ahead start end from ordered is h =
     drop_between xs start end from (omega (arith, ap length is, length-take (end - start) (drop start xs))) ∙ ap (drop from) is
 
--- the bytes ahead were moved to the front, and so many bytes were read behind them
+-- the bytes ahead were moved to the prefix, and so many bytes were read behind them
 pub filled : (ahead moved read : List ℕ) (len count : ℕ) → between 0 len moved ≡ ahead → take len read ≡ take len moved → between 0 (len + count) read ≡ ahead ++ take count (drop len read)
-filled ahead moved read len count front same =
+filled ahead moved read len count prefix same =
     between_from_start read (len + count)
     ∙ take-add len count read
-    ∙ ap (λ w. w ++ take count (drop len read)) (same ∙ sym (between_from_start moved len) ∙ front)
+    ∙ ap (λ w. w ++ take count (drop len read)) (same ∙ sym (between_from_start moved len) ∙ prefix)
 
 pub filled_adds : (ahead moved read : List ℕ) (len count : ℕ) → between 0 len moved ≡ ahead → take len read ≡ take len moved → count ≤ length (drop len read) → length read ≡ 65537 → AddsBytes ahead (between 0 (len + count) read) count
-filled_adds ahead moved read len count front same fits full =
-    let is = filled ahead moved read len count front same in
+filled_adds ahead moved read len count prefix same fits full =
+    let is = filled ahead moved read len count prefix same in
     record {
       prefix = record { rest = take count (drop len read); is = sym is };
       len = omega (arith, ap length is, length-append ahead (take count (drop len read)), length-take-le count (drop len read) fits);

@@ -12,9 +12,9 @@ put_more old held new piece done n h e =
     ∙ append_assoc old (take done piece) (take n (drop done piece))
     ∙ ap (λ w. old ++ w) (sym (take-add done n piece))
 
-pub holds_front : (old held new piece : List ℕ) (done : ℕ) → held ≡ old ++ take done piece → new ≡ held → HoldsPart old new piece
-holds_front old held new piece done h e = record {
+pub holds_prefix : (old held new piece : List ℕ) (done : ℕ) → held ≡ old ++ take done piece → new ≡ held → HoldsPart old new piece
+holds_prefix old held new piece done h e = record {
   part = take done piece;
-  front = record { rest = drop done piece; is = take-append-drop done piece };
+  prefix = record { rest = drop done piece; is = take-append-drop done piece };
   added = e ∙ h;
 }

@@ -73,41 +73,41 @@ feed_place (x ∷ xs) =
 
 -- ---- the first line with its line feed
 
-abbrev pub front_of : List ℕ → List ℕ
-front_of [] = []
-front_of (byte ∷ bytes) = cond (byte == 10) (byte ∷ []) (byte ∷ front_of bytes)
+abbrev pub prefix_of : List ℕ → List ℕ
+prefix_of [] = []
+prefix_of (byte ∷ bytes) = cond (byte == 10) (byte ∷ []) (byte ∷ prefix_of bytes)
 
 -- the rest stands behind it
-pub front_and_rest : (bytes : List ℕ) → front_of bytes ++ rest_of bytes ≡ bytes
-front_and_rest [] = refl
-front_and_rest (byte ∷ bytes) =
-    elim (byte == 10) as (λ t. cond t (byte ∷ []) (byte ∷ front_of bytes) ++ cond t bytes (rest_of bytes) ≡ byte ∷ bytes) [
+pub prefix_and_rest : (bytes : List ℕ) → prefix_of bytes ++ rest_of bytes ≡ bytes
+prefix_and_rest [] = refl
+prefix_and_rest (byte ∷ bytes) =
+    elim (byte == 10) as (λ t. cond t (byte ∷ []) (byte ∷ prefix_of bytes) ++ cond t bytes (rest_of bytes) ≡ byte ∷ bytes) [
       | true ↦ refl
-      | false ↦ ap (λ w. byte ∷ w) (front_and_rest bytes)
+      | false ↦ ap (λ w. byte ∷ w) (prefix_and_rest bytes)
     ]
 
 -- alone it is the first line
-pub lines_of_front : (bytes : List ℕ) → bytes ≢ [] → lines_of (front_of bytes) ≡ line_of bytes ∷ []
-lines_of_front [] more = absurd (more refl)
-lines_of_front (byte ∷ []) more =
+pub lines_of_prefix : (bytes : List ℕ) → bytes ≢ [] → lines_of (prefix_of bytes) ≡ line_of bytes ∷ []
+lines_of_prefix [] more = absurd (more refl)
+lines_of_prefix (byte ∷ []) more =
     elim (byte == 10) as (λ t. (byte == 10) ≡ t → lines_of (cond t (byte ∷ []) (byte ∷ [])) ≡ cond t [] (byte ∷ []) ∷ []) [
       | true ↦ λ is. rw is refl
       | false ↦ λ is. rw is refl
     ] refl
-lines_of_front (byte ∷ next ∷ bytes) more =
+lines_of_prefix (byte ∷ next ∷ bytes) more =
     let rest : List ℕ = next ∷ bytes in
-    let first : lines_of (front_of rest) ≡ line_of rest ∷ [] = lines_of_front (next ∷ bytes) (λ h. absurd cc) in
-    elim (byte == 10) as (λ t. (byte == 10) ≡ t → lines_of (cond t (byte ∷ []) (byte ∷ front_of rest)) ≡ cond t [] (byte ∷ line_of rest) ∷ []) [
+    let first : lines_of (prefix_of rest) ≡ line_of rest ∷ [] = lines_of_prefix (next ∷ bytes) (λ h. absurd cc) in
+    elim (byte == 10) as (λ t. (byte == 10) ≡ t → lines_of (cond t (byte ∷ []) (byte ∷ prefix_of rest)) ≡ cond t [] (byte ∷ line_of rest) ∷ []) [
       | true ↦ λ is. rw is refl
       | false ↦ λ is. rw is (ap (λ w. begin_first byte w) first)
     ] refl
 
 -- and before other bytes, where a rest stands behind it, since it ends in a line feed then
-pub lines_behind_front : (bytes others : List ℕ) → rest_of bytes ≢ [] → lines_of (front_of bytes ++ others) ≡ line_of bytes ∷ lines_of others
-lines_behind_front [] others more = absurd (more refl)
-lines_behind_front (byte ∷ bytes) others more =
+pub lines_behind_prefix : (bytes others : List ℕ) → rest_of bytes ≢ [] → lines_of (prefix_of bytes ++ others) ≡ line_of bytes ∷ lines_of others
+lines_behind_prefix [] others more = absurd (more refl)
+lines_behind_prefix (byte ∷ bytes) others more =
     elim (byte == 10) as (λ t. (byte == 10) ≡ t → cond t bytes (rest_of bytes) ≢ []
-    → lines_of (cond t (byte ∷ []) (byte ∷ front_of bytes) ++ others) ≡ cond t [] (byte ∷ line_of bytes) ∷ lines_of others) [
+    → lines_of (cond t (byte ∷ []) (byte ∷ prefix_of bytes) ++ others) ≡ cond t [] (byte ∷ line_of bytes) ∷ lines_of others) [
       | true ↦ λ is some. rw is refl
-      | false ↦ λ is some. rw is (ap (λ w. begin_first byte w) (lines_behind_front bytes others some))
+      | false ↦ λ is some. rw is (ap (λ w. begin_first byte w) (lines_behind_prefix bytes others some))
     ] refl more

@@ -10,7 +10,7 @@ use Rattle.curp_io.specs.declared.sink.Put.TheVariants as put
 use Rattle.curp_io.specs.declared.standard.Verdict.{Verdict}
 use Rattle.curp_io.specs.declared.standard.Verdict.TheVariants as verdict
 
--- what an error of this kind means: an interrupted call is made again, want of memory is told as such, and any other is a
+-- what an error of this kind means: an interrupted call is made again, running out of memory is told as such, and any other is a
 -- fault
 abbrev pub verdict_of : ErrorKind → Verdict
 verdict_of Interrupted = verdict.Interruption

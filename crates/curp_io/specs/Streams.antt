@@ -27,7 +27,7 @@ abbrev pub FitsBuffer : Taken → List ℕ → Type 0
 FitsBuffer (taken.Bytes n) buffer = n ≤ length buffer
 FitsBuffer taken.Failed buffer = ⊤
 
--- The bytes taken come from the front of those that were left, and the rest is left. No byte for a buffer with room
+-- The bytes taken come from the prefix of those that were left, and the rest is left. No byte for a buffer with room
 -- means that none was left. A failure leaves all.
 abbrev pub Takes : List ℕ → List ℕ → Taken → List ℕ → Type 0
 Takes old new (taken.Bytes n) buffer = (old ≡ take n buffer ++ new) × (n ≡ 0 → 0 < length buffer → old ≡ [])
@@ -39,7 +39,7 @@ MovesOn (put.Took n) piece = (n ≤ length piece) × (0 < length piece → 0 < n
 MovesOn put.Failed piece = ⊤
 MovesOn put.NoMemory piece = ⊤
 
--- the front of the piece that was put stands after what was held; a refusal puts nothing
+-- the prefix of the piece that was put stands after what was held; a refusal puts nothing
 abbrev pub Puts : List ℕ → List ℕ → Put → List ℕ → Type 0
 Puts old new (put.Took n) piece = new ≡ old ++ take n piece
 Puts old new put.Failed piece = new ≡ old
@@ -56,13 +56,13 @@ abbrev pub flushed_after_flush : Bool → Flushed → Bool
 flushed_after_flush flushed flush.Done = true
 flushed_after_flush flushed flush.Failed = flushed
 
--- some front of the piece stands after what was held
+-- some prefix of the piece stands after what was held
 pub record HoldsPart (old new piece : List ℕ) : Type 0 where
   pub part : List ℕ
-  pub front : IsPrefix part piece
+  pub prefix : IsPrefix part piece
   pub added : new ≡ old ++ part
 
--- the whole piece stands after what was held; after a refusal, a front of it
+-- the whole piece stands after what was held; after a refusal, a prefix of it
 abbrev pub Writes : List ℕ → List ℕ → Written → List ℕ → Type 0
 Writes old new written.Whole piece = new ≡ old ++ piece
 Writes old new written.WriteFault piece = HoldsPart old new piece

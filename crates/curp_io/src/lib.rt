@@ -8,12 +8,12 @@
 //!   `repeats`: after a fault or a line that is too long it answers the same for ever. `ready_line` gives the lines that
 //!   were read ahead whole, exactly those (`no_feed`), and has no source to ask: so one can do something else before
 //!   `next_line` waits for the source.
-//! - `write_piece`, clause `bytes`: the whole piece was put, or a front of it after a refusal. `next_line` and
+//! - `write_piece`, clause `bytes`: the whole piece was put, or a prefix of it after a refusal. `next_line` and
 //!   `write_piece` carry `cause` and `told`.
 //! - `MemorySource`, `MemorySink`: exact, also which calls fail, as a `Schedule` says (`turn`, exact). `SureSource`,
 //!   `SureSink`: they never fail, since their count of faults is always 0. `StdSource` and `StdSink` keep the traits'
 //!   clauses over any reader and writer of std; they tell bytes where these do. `verdict_of`, `put_of`: exact, which of
-//!   std's errors is an interruption, want of memory or a fault, and what a write's outcome is.
+//!   std's errors is an interruption, running out of memory or a fault, and what a write's outcome is.
 #![tactic(auto)]
 
 mod lines;

@@ -6,7 +6,7 @@ ghost use Rattle.curp_io.specs.Streams.{flushed_after_flush, flushed_after_put};
 use crate::schedule::{Schedule, Turn};
 use crate::sink::{Flushed, Put, Sink};
 use crate::source::{Source, Taken};
-use crate::sure::{copy_front, take_whole};
+use crate::sure::{copy_prefix, take_whole};
 use curp_base::NoMemory;
 use std::alloc::Global;
 use std::marker::Model;
@@ -93,7 +93,7 @@ impl Source for MemorySource {
         match self.schedule.turn() {
             Turn::Fails => Taken::Failed,
             Turn::Goes => {
-                let count = copy_front(&self.bytes[self.at..], buf, self.piece);
+                let count = copy_prefix(&self.bytes[self.at..], buf, self.piece);
                 self.at += count;
                 Taken::Bytes(count)
             }

@@ -83,7 +83,7 @@ impl<R: Read> Source for StdSource<R> {
 /// byte that it took here.
 ///
 /// It tells bytes where the writer does, so none of a file or a pipe. A call that is interrupted is tried again, 1,000
-/// times in all. Want of memory is `NoMemory`. Any other error is a fault, and so is a write that takes no byte of a
+/// times in all. Running out of memory is `NoMemory`. Any other error is a fault, and so is a write that takes no byte of a
 /// piece.
 #[derive(Drop)]
 pub struct StdSink<W> {

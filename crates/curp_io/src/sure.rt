@@ -49,7 +49,7 @@ impl Source for SureSource {
     ghost faults = { λ _. 0 };
 
     fn take(&mut self, buf: &mut [u8]) -> Taken {
-        let count = copy_front(&self.bytes[self.at..], buf, usize::MAX);
+        let count = copy_prefix(&self.bytes[self.at..], buf, usize::MAX);
         self.at += count;
         Taken::Bytes(count)
     }
@@ -115,8 +115,8 @@ impl Sink for SureSink {
     }
 }
 
-/// Copies bytes from the front of one slice to the front of another, at most `most`, and says how many.
-pub(crate) fn copy_front(from: &[u8], to: &mut [u8], most: usize) -> usize
+/// Copies bytes from the prefix of one slice to the prefix of another, at most `most`, and says how many.
+pub(crate) fn copy_prefix(from: &[u8], to: &mut [u8], most: usize) -> usize
     ensures count { result ≡ min (min most (length to.old)) (length from.now) }
     ensures bytes { take result to.new ≡ take result from.now }
 {

@@ -133,7 +133,7 @@ impl Window {
         ensures never_falls { S.faults source.old ≤ S.faults source.new }
     {
         let len = self.end - self.start;
-        move_to_front(&mut self.buffer, self.start, self.end);
+        move_to_prefix(&mut self.buffer, self.start, self.end);
         self.line_start = 0;
         self.line_end = 0;
         self.start = 0;
@@ -182,11 +182,11 @@ fn find_line_feed(bytes: &[u8]) -> Option<usize>
     bytes.iter().position(|byte| *byte == b'\n')
 }
 
-/// Moves a part of the buffer to its front, where it isn't there already.
-fn move_to_front(buffer: &mut Vec<u8>, start: usize, end: usize)
+/// Moves a part of the buffer to its prefix, where it isn't there already.
+fn move_to_prefix(buffer: &mut Vec<u8>, start: usize, end: usize)
     requires start_le_end { start ≤ end }
     requires end_in_bounds { end ≤ vec_len buffer.old }
-    ensures front { between 0 (end - start) buffer.new.items ≡ between start end buffer.old.items }
+    ensures prefix { between 0 (end - start) buffer.new.items ≡ between start end buffer.old.items }
     ensures len { vec_len buffer.new ≡ vec_len buffer.old }
 {
     if start > 0 {
@@ -197,7 +197,7 @@ fn move_to_front(buffer: &mut Vec<u8>, start: usize, end: usize)
 /// Takes bytes of the source into the buffer from a place on.
 fn take_behind<S: Source>(source: &mut S, buffer: &mut Vec<u8>, from: usize) -> Taken
     requires { from ≤ vec_len buffer.old }
-    ensures front { take from buffer.new.items ≡ take from buffer.old.items }
+    ensures prefix { take from buffer.new.items ≡ take from buffer.old.items }
     ensures len { vec_len buffer.new ≡ vec_len buffer.old }
     ensures fits { FitsBuffer result (drop from buffer.new.items) }
     ensures bytes { S.tells source.old ≡ true

@@ -9,7 +9,7 @@ pub enum Written {
     Whole,
     /// The sink failed. It may have taken bytes at the start of the piece.
     WriteFault,
-    /// The sink wanted memory. It may have taken bytes at the start of the piece.
+    /// The sink ran out of memory. It may have taken bytes at the start of the piece.
     NoMemory,
 }
 

@@ -51,16 +51,16 @@ module _ {K : Type 0} (R : K → K → Ordering) (o : IsTotalOrder R) where
       let known : last ≡ option_map (λ (p : K × Unit {0}). p.0) (last_of (keyed keys)) = e ∙ key_of_last (last_of keys) ∙ ap (option_map (λ (p : K × Unit {0}). p.0)) (sym (last-keyed R keys)) in
       subst (KeysAscend R) (sym pushed) (pairs_on R o (keyed keys) last k tt s known h)
 
--- ---- fronts, and the last key
+-- ---- prefixes, and the last key
 
 module _ {K V : Type 0} (R : K → K → Ordering) where
-  below-front : (k : K) (xs ys : List (K × V)) → T (below_all R k (xs ++ ys)) → T (below_all R k xs)
-  below-front k [] ys b = tt
-  below-front k (x ∷ xs) ys b = both _ _ (left _ _ b) (below-front k xs ys (right _ _ b))
+  below-prefix : (k : K) (xs ys : List (K × V)) → T (below_all R k (xs ++ ys)) → T (below_all R k xs)
+  below-prefix k [] ys b = tt
+  below-prefix k (x ∷ xs) ys b = both _ _ (left _ _ b) (below-prefix k xs ys (right _ _ b))
 
-  pub ascend-front : (xs ys : List (K × V)) → KeysAscend R (xs ++ ys) → KeysAscend R xs
-  ascend-front [] ys s = tt
-  ascend-front (x ∷ xs) ys s = both _ _ (below-front x.0 xs ys (left _ _ s)) (ascend-front xs ys (right _ _ s))
+  pub ascend-prefix : (xs ys : List (K × V)) → KeysAscend R (xs ++ ys) → KeysAscend R xs
+  ascend-prefix [] ys s = tt
+  ascend-prefix (x ∷ xs) ys s = both _ _ (below-prefix x.0 xs ys (left _ _ s)) (ascend-prefix xs ys (right _ _ s))
 
   pub ascend-last : (es : List (K × V)) (p l : K × V) → KeysAscend R (es ++ p ∷ []) → last_of es ≡ Some l → R l.0 p.0 ≡ Less
   ascend-last [] p l s e = absurd cc
@@ -74,8 +74,8 @@ module _ {K : Type 0} (R : K → K → Ordering) where
   keyed-append [] ys = refl
   keyed-append (x ∷ xs) ys = ap (λ (r : List (K × Unit {0})). (x, tt {0}) ∷ r) (keyed-append xs ys)
 
-  pub keys-front : (xs ys : List K) → Ascend R (xs ++ ys) → Ascend R xs
-  keys-front xs ys s = ascend-front R (keyed xs) (keyed ys) (subst (KeysAscend R) (keyed-append xs ys) s)
+  pub keys-prefix : (xs ys : List K) → Ascend R (xs ++ ys) → Ascend R xs
+  keys-prefix xs ys s = ascend-prefix R (keyed xs) (keyed ys) (subst (KeysAscend R) (keyed-append xs ys) s)
 
   pub keys-last : (keys : List K) (k l : K) → Ascend R (keys ++ k ∷ []) → last_of keys ≡ Some l → R l k ≡ Less
   keys-last keys k l s e =

@@ -1,4 +1,4 @@
--- A format reads what it spells, whatever follows, and spells what it reads: of each combinator of formats.
+-- A format reads what it encodes, whatever follows, and encodes what it reads: of each combinator of formats.
 use Rattle.std.proofs.Common.{◌≡◌, ℕ, zero, suc, ◌+◌, ◌<◌, ◌≤◌, Bool, true, false, cond, ltb, List, [], ◌∷◌, ◌++◌, length, take, drop, get_or, Option, Some, None, Result, Ok, Err, refl, sym, ap, subst, ◌∙◌, append_assoc, arith, inl, inr, ◌⊎◌, eqb}
 use Rattle.std.proofs.lemmas.Bool.{cases_lt, eqb-true, ltb-false, le-ltb}
 use Rattle.std.proofs.lemmas.List.{append-nil, drop_at, get_or_append_left, get_or-append-add, get_or_past, length-append, length-drop, length-take, take_at, take-append-drop}
@@ -17,13 +17,13 @@ IsByte n = n < 256
 abbrev pub input : ℕ → List ℕ → Input
 input place rest = record { place = place; rest = rest }
 
--- a spelling of the value was taken from the front
+-- a encoding of the value was taken from the prefix
 pub record Takes {A : Type 0} (f : Format A) (at : Input) (x : A) (after : Input) : Type 0 where
   pub fits : f.Fits x
   pub rest : at.rest ≡ f.of x ++ after.rest
   pub place : after.place ≡ at.place + length (f.of x)
 
--- what is read is spelled so, and what is spelled so is read, whatever follows
+-- what is read is encoded so, and what is encoded so is read, whatever follows
 pub record IsFormat {A : Type 0} (f : Format A) : Type 0 where
   pub sound : (at : Input) (x : A) (after : Input) → AreBytes at.rest → f.read at ≡ Ok (x, after) → Takes f at x after
   pub complete : (x : A) (place : ℕ) (rest : List ℕ) → f.Fits x → f.read (input place (f.of x ++ rest)) ≡ Ok (x, input (place + length (f.of x)) rest)
@@ -47,8 +47,8 @@ kept true d x y e = absurd cc
 kept false d x y e = (refl, cc)
 
 -- bytes behind bytes
-pub bytes_behind : (all front rest : List ℕ) → AreBytes all → all ≡ front ++ rest → AreBytes rest
-bytes_behind all front rest h e = subst AreBytes (ap (drop (length front)) e ∙ drop_at front rest (length front) refl) (All-drop IsByte (length front) all h)
+pub bytes_behind : (all prefix rest : List ℕ) → AreBytes all → all ≡ prefix ++ rest → AreBytes rest
+bytes_behind all prefix rest h e = subst AreBytes (ap (drop (length prefix)) e ∙ drop_at prefix rest (length prefix) refl) (All-drop IsByte (length prefix) all h)
 
 pub taken_bytes : {A : Type 0} (f : Format A) (at : Input) (x : A) (after : Input) → AreBytes at.rest → Takes f at x after → AreBytes after.rest
 taken_bytes f at x after h t = bytes_behind at.rest (f.of x) after.rest h t.rest
@@ -77,10 +77,10 @@ item_is {A} size Fits text value again back = record {
       let g = kept (ltb (length at.rest) size) at.place (take size at.rest, behind size at) a.0 a.1 in
       let long : size ≤ length at.rest = ltb-false _ _ g.0 in
       let f = found_ok at.place (value a.0.0) a.0.1 x after a.2 in
-      let front : a.0.0 ≡ take size at.rest = ap (λ (p : List ℕ × Input). p.0) (sym g.1) in
+      let prefix : a.0.0 ≡ take size at.rest = ap (λ (p : List ℕ × Input). p.0) (sym g.1) in
       let back_is : after ≡ behind size at = sym f.1 ∙ ap (λ (p : List ℕ × Input). p.1) (sym g.1) in
       let len : length (take size at.rest) ≡ size = omega (arith, length-take size at.rest) in
-      let b = back (take size at.rest) x (All-take IsByte size at.rest h) len (ap value (sym front) ∙ f.0) in
+      let b = back (take size at.rest) x (All-take IsByte size at.rest h) len (ap value (sym prefix) ∙ f.0) in
       record {
         fits = b.0;
         rest = sym (take-append-drop size at.rest) ∙ ap (λ (r : List ℕ). r ++ drop size at.rest) (sym b.1) ∙ ap (λ (i : Input). text x ++ i.rest) (sym back_is);
@@ -112,13 +112,13 @@ counted_takes place [] text after h e = absurd cc
 counted_takes place (n ∷ rest) text after h e =
     let g = kept (ltb (length rest) n) place (take n rest, input (place + 1 + n) (drop n rest)) (text, after) e in
     let long : n ≤ length rest = ltb-false _ _ g.0 in
-    let front : take n rest ≡ text = ap (λ (p : List ℕ × Input). p.0) g.1 in
+    let prefix : take n rest ≡ text = ap (λ (p : List ℕ × Input). p.0) g.1 in
     let behind_is : input (place + 1 + n) (drop n rest) ≡ after = ap (λ (p : List ℕ × Input). p.1) g.1 in
-    let len : length text ≡ n = sym (ap length front) ∙ omega (arith, length-take n rest) in
+    let len : length text ≡ n = sym (ap length prefix) ∙ omega (arith, length-take n rest) in
     let small : n < 256 = All-head IsByte n rest h in (
       omega (arith, len),
-      subst AreBytes front (All-take IsByte n rest (All-tail IsByte n rest h)),
-      ap (λ (r : List ℕ). n ∷ r) (sym (take-append-drop n rest) ∙ ap (λ (r : List ℕ). r ++ drop n rest) front ∙ ap (λ (i : Input). text ++ i.rest) behind_is) ∙ ap (λ (k : ℕ). k ∷ (text ++ after.rest)) (sym len),
+      subst AreBytes prefix (All-take IsByte n rest (All-tail IsByte n rest h)),
+      ap (λ (r : List ℕ). n ∷ r) (sym (take-append-drop n rest) ∙ ap (λ (r : List ℕ). r ++ drop n rest) prefix ∙ ap (λ (i : Input). text ++ i.rest) behind_is) ∙ ap (λ (k : ℕ). k ∷ (text ++ after.rest)) (sym len),
       ap (λ (i : Input). i.place) (sym behind_is) ∙ omega (arith, len),
     )
 
@@ -204,14 +204,14 @@ shaped_is {A} {B} make parts f made parted is = record {
 
 -- ---- variants
 
--- the fields of a value of the variant were taken from the front
+-- the fields of a value of the variant were taken from the prefix
 pub record TakesFields (parts : Tagged) (tag : ℕ) (at after : Input) : Type 0 where
   pub tag_is : parts.tag ≡ tag
   pub fits : parts.Fits
   pub rest : at.rest ≡ parts.text ++ after.rest
   pub place : after.place ≡ at.place + length parts.text
 
--- what is read behind the variant's tag is spelled so
+-- what is read behind the variant's tag is encoded so
 abbrev pub SoundVariant : {A : Type 0} → (A → Tagged) → Variant A → Type 0
 SoundVariant {A} parts v = (at : Input) (x : A) (after : Input) → AreBytes at.rest → v.fields at ≡ Ok (x, after) → TakesFields (parts x) v.tag at after
 
@@ -228,7 +228,7 @@ variant_sound {A} {B} parts tag fields make parted is at x after h e =
     let made : TakesFields (parts (make a.0.0)) tag at a.0.1 = subst (λ (q : Tagged). TakesFields q tag at a.0.1) (sym (parted a.0.0)) mine in
     subst (λ (q : A × Input). TakesFields (parts q.0) tag at q.1) p made
 
--- what is read behind the tag of a value that is spelled
+-- what is read behind the tag of a value that is encoded
 abbrev pub Again : {A : Type 0} → (A → Tagged) → List (Variant A) → Type 0
 Again {A} parts variants = (x : A) (start place : ℕ) (rest : List ℕ) → (parts x).Fits → by_tag variants (parts x).tag start (input place ((parts x).text ++ rest)) ≡ Ok (x, input (place + length (parts x).text) rest)
 
@@ -286,7 +286,7 @@ AllFit next before (x ∷ xs) = (next before).Fits x × AllFit next (before ++ x
 -- The format of the next item asks that the list stay in order, and nothing else beside the item's own format
 pub record IsOrder {A : Type 0} (each : Format A) (InOrder : List A → Type 0) (next : List A → Format A) : Type 0 where
   pub empty : InOrder []
-  pub front : (xs ys : List A) → InOrder (xs ++ ys) → InOrder xs
+  pub prefix : (xs ys : List A) → InOrder (xs ++ ys) → InOrder xs
   pub grows : (before : List A) (x : A) → InOrder before → (next before).Fits x → each.Fits x × InOrder (before ++ x ∷ [])
   pub shrinks : (before : List A) (x : A) → InOrder (before ++ x ∷ []) → each.Fits x → (next before).Fits x
 
@@ -298,7 +298,7 @@ module _ {A : Type 0} (each : Format A) (InOrder : List A → Type 0) (next : Li
   down before [] f o = tt
   down before (x ∷ xs) f o =
       let o2 = subst InOrder (regroup before x xs) o in
-      (order.shrinks before x (order.front (before ++ x ∷ []) xs o2) f.0, down (before ++ x ∷ []) xs f.1 o2)
+      (order.shrinks before x (order.prefix (before ++ x ∷ []) xs o2) f.0, down (before ++ x ∷ []) xs f.1 o2)
 
   up : (before xs : List A) → InOrder before → AllFit next before xs → Each each.Fits xs × InOrder (before ++ xs)
   up before [] o f = (tt, subst InOrder (sym (append-nil before)) o)
@@ -381,7 +381,7 @@ module _ {A : Type 0} (each : Format A) (InOrder : List A → Type 0) (next : Li
     }
 
 pub plain_order : {A : Type 0} (f : Format A) → IsOrder f (λ xs. Unit {0}) (λ before. f)
-plain_order f = record { empty = tt; front = λ xs ys o. tt; grows = λ before x o fits. (fits, tt); shrinks = λ before x o fits. fits }
+plain_order f = record { empty = tt; prefix = λ xs ys o. tt; grows = λ before x o fits. (fits, tt); shrinks = λ before x o fits. fits }
 
 pub list_of_is : {A : Type 0} (count : Format ℕ) (f : Format A) → IsFormat count → IsFormat f → IsFormat (list_of count f)
 list_of_is {A} count f counts is = listed_is f (λ (xs : List A). Unit {0}) (λ before. f) (plain_order f) (λ before. is) (λ before x. refl) count counts

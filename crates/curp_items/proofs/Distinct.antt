@@ -16,12 +16,12 @@ distinct-push (p ∷ pairs) q d n =
     list_any-append (λ (r : Pair). bytes_eq r.0 p.0) pairs (q ∷ []) ∙ or_from _ _ others.0 (or_from _ _ own.0 refl) in
     or_from _ _ joined (distinct-push pairs q others.1 own.1)
 
-pub distinct-front : (xs ys : List Pair) → names_twice (xs ++ ys) ≡ false → names_twice xs ≡ false
-distinct-front [] ys d = refl
-distinct-front (p ∷ xs) ys d =
+pub distinct-prefix : (xs ys : List Pair) → names_twice (xs ++ ys) ≡ false → names_twice xs ≡ false
+distinct-prefix [] ys d = refl
+distinct-prefix (p ∷ xs) ys d =
     let parts = or_parts (list_any (λ (r : Pair). bytes_eq r.0 p.0) (xs ++ ys)) (names_twice (xs ++ ys)) d in
-    let front = or_parts (list_any (λ (r : Pair). bytes_eq r.0 p.0) xs) (list_any (λ (r : Pair). bytes_eq r.0 p.0) ys) (sym (list_any-append (λ (r : Pair). bytes_eq r.0 p.0) xs ys) ∙ parts.0) in
-    or_from _ _ front.0 (distinct-front xs ys parts.1)
+    let prefix = or_parts (list_any (λ (r : Pair). bytes_eq r.0 p.0) xs) (list_any (λ (r : Pair). bytes_eq r.0 p.0) ys) (sym (list_any-append (λ (r : Pair). bytes_eq r.0 p.0) xs ys) ∙ parts.0) in
+    or_from _ _ prefix.0 (distinct-prefix xs ys parts.1)
 
 pub distinct-last : (pairs : List Pair) (q : Pair) → names_twice (pairs ++ q ∷ []) ≡ false → names pairs q.0 ≡ false
 distinct-last [] q d = refl

@@ -1,4 +1,4 @@
--- Each format of the table reads what it spells, and spells what it reads.
+-- Each format of the table reads what it encodes, and encodes what it reads.
 use Rattle.std.proofs.Common.{◌≡◌, ℕ, ◌+◌, ◌^◌, ◌<◌, ◌≤◌, Bool, true, false, ◌&&◌, ◌||◌, cond, eqb, List, [], ◌∷◌, ◌++◌, length, Option, Some, None, Result, Ok, Err, refl, sym, ap, subst, ◌∙◌, append_assoc, arith, rules, inl, inr}
 use Rattle.std.proofs.Math.Bridge.{le_prop}
 use Rattle.std.proofs.lemmas.Bool.{and_cases, cases_lt, eq-eqb, eqb-true, le-leb, leb-true, lt-ltb, ltb-true, not-true, not_from_false, or_cases, or_from, or_left, or_parts, or_right}
@@ -25,7 +25,7 @@ use Rattle.curp_cmd.specs.declared.node.NodeId.{NodeId}
 use Rattle.curp_cmd.specs.declared.node.NodeKind.{NodeKind}
 use Rattle.curp_cmd.specs.declared.node.NodeKind.TheVariants.{Manager, Client, Master, Backup, Witness}
 use Rattle.curp_items.specs.Bounds.{bounds_of}
-use Rattle.curp_items.proofs.Distinct.{distinct-front, distinct-last, distinct-push}
+use Rattle.curp_items.proofs.Distinct.{distinct-prefix, distinct-last, distinct-push}
 use Rattle.curp_items.proofs.Combining.{Again, IsByte, IsFormat, IsOrder, SoundVariants, bind_ok, byte_in, byte_is, chosen, fields_again, found_ok, input, item_is, listed_is, nothing_is, one_of_is, only_is, optional_is, shaped_is, string_is, taken_bytes, then_by_is, then_is, variant_sound}
 use Rattle.curp_items.proofs.Ranges.{ends_are, range_is}
 use Rattle.curp_items.proofs.Orders.{IsAbove, ascending_keys_is, ascending_pairs_is}
@@ -235,7 +235,7 @@ multi_order : IsOrder (key ▸ value) Distinct (λ before. key_beside before ▸
 unfolding key_beside
 multi_order = record {
   empty = refl;
-  front = distinct-front;
+  prefix = distinct-prefix;
   grows = λ before p d f. ((f.0.0, f.1), distinct-push before p d (not-true _ f.0.1));
   shrinks = λ before p d f. ((f.0, not_from_false _ (distinct-last before p d)), f.1);
 }

@@ -1,7 +1,7 @@
 pub mod Ascends
 pub mod Distinct
 pub mod Formats
-pub mod Fronts
+pub mod Prefixes
 pub mod Combining
 pub mod More
 pub mod Orders

@@ -5,7 +5,7 @@ use Rattle.std.specs.Cmp.{IsTotalOrder}
 use Rattle.std.specs.declared.cmp.Ordering.{Ordering}
 use Rattle.std.specs.declared.cmp.Ordering.TheVariants.{Less}
 use Rattle.curp_base.specs.Words.{Ascend, KeysAscend, last_of}
-use Rattle.curp_items.proofs.Ascends.{ascend-front, ascend-last, keys-front, keys-last, keys_on, pairs_on}
+use Rattle.curp_items.proofs.Ascends.{ascend-prefix, ascend-last, keys-prefix, keys-last, keys_on, pairs_on}
 use Rattle.curp_items.proofs.Combining.{IsFormat, IsOrder, listed_is, then_is}
 use Rattle.curp_items.specs.Format.{Format, ascending_keys, ascending_pairs, key_after, ◌▸◌}
 
@@ -37,7 +37,7 @@ module _ {K : Type 0} (R : K → K → Ordering) (key : Format K) (above : K →
     keys_order : IsOrder key (Ascend R) (λ before. key_after key above (last_of before))
     keys_order = record {
       empty = tt;
-      front = keys-front R;
+      prefix = keys-prefix R;
       grows = λ before k asc f.
           let g = after_asks (last_of before) k f in
           (g.0, keys_on R o before (last_of before) k asc refl g.1);
@@ -58,7 +58,7 @@ module _ {K : Type 0} (R : K → K → Ordering) (key : Format K) (above : K →
       pairs_order : IsOrder (key ▸ value) (KeysAscend R) (λ before. key_after key above (option_map (λ p. p.0) (last_of before)) ▸ value)
       pairs_order = record {
         empty = tt;
-        front = ascend-front R;
+        prefix = ascend-prefix R;
         grows = λ before p asc f.
             let g = after_asks (option_map (λ p. p.0) (last_of before)) p.0 f.0 in
             ((g.0, f.1), pairs_on R o before (option_map (λ p. p.0) (last_of before)) p.0 p.1 asc refl g.1);

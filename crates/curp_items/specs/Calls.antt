@@ -38,10 +38,10 @@ IsAtEnd (Err fault) place rest = (rest ≢ []) × (fault.place ≡ place)
 
 -- what a writer holds: bytes that stood there before, and what was written behind them
 pub record Written : Type 0 where
-  pub front : List ℕ
+  pub prefix : List ℕ
   pub text : List ℕ
 
 -- the call wrote this text, or memory ran out and all that was written is gone
 abbrev pub WritesItem : Written → Written → Result ⊤ AllocError → List ℕ → Type 0
-WritesItem old new (Ok done) text = new ≡ record { front = old.front; text = old.text ++ text }
-WritesItem old new (Err why) text = new ≡ record { front = old.front; text = [] }
+WritesItem old new (Ok done) text = new ≡ record { prefix = old.prefix; text = old.text ++ text }
+WritesItem old new (Err why) text = new ≡ record { prefix = old.prefix; text = [] }

@@ -1,4 +1,4 @@
--- Binary formats: which values have a spelling, which it is, and how values are read from the front of bytes.
+-- Binary formats: which values have a encoding, which it is, and how values are read from the prefix of bytes.
 use Rattle.std.specs.Prelude.{◌≡◌, ℕ, zero, suc, ◌+◌, ◌<◌, ◌^◌, ◌==◌, nat_lt, nat_le, ◌&&◌, if◌then◌else◌, Bool, true, false, List, [], ◌∷◌, ◌++◌, length, take, drop, Option, Some, None, option_map, Result, Ok, Err, ⊤}
 use Rattle.std.specs.Int.{Width, byte_len, to_be_bytes, from_be_bytes}
 use Rattle.std.specs.List.{flat_map}
@@ -15,7 +15,7 @@ pub record Input : Type 0 where
 abbrev pub Reading : Type 0 → Type 0
 Reading A = Input → Result (A × Input) ℕ
 
--- A format: which values have a spelling, which it is, and how one is read
+-- A format: which values have a encoding, which it is, and how one is read
 pub record Format (A : Type 0) : Type 1 where
   pub Fits : A → Type 0
   pub of : A → List ℕ
@@ -97,7 +97,7 @@ infixr 20 ◌▸◌
 abbrev pub ◌▸◌ : {A B : Type 0} → Format A → Format B → Format (A × B)
 first ▸ second = then_by first (λ x. second)
 
--- values that are made of others, and are spelled as these
+-- values that are made of others, and are encoded as these
 abbrev pub shaped : {A B : Type 0} → (B → A) → (A → B) → Format B → Format A
 shaped make parts f = record {
   Fits = λ x. f.Fits (parts x);
@@ -107,7 +107,7 @@ shaped make parts f = record {
 
 -- ---- variants
 
--- a value of a variant: its tag, and its fields' spelling
+-- a value of a variant: its tag, and its fields' encoding
 pub record Tagged : Type 1 where
   pub tag : ℕ
   pub Fits : Type 0

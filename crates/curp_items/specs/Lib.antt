@@ -2,4 +2,4 @@ pub mod Bounds
 pub mod Calls
 pub mod Format
 pub mod Items
-pub mod Spelling
+pub mod Encoding

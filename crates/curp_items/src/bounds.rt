@@ -16,7 +16,7 @@ impl Item for Bounds {
 
     ghost format = { bounds };
 
-    ghost HasSpelling = { λ _. ⊤ };
+    ghost HasEncoding = { λ _. ⊤ };
 
     #[tactic(auto, unfolding(crate::specs::Items::bounds))]
     fn write(&self, out: &mut Writer) -> Result<(), NoMemory> {

@@ -9,7 +9,7 @@ impl Item for Command {
 
     ghost format = { command };
 
-    ghost HasSpelling = { λ _. ⊤ };
+    ghost HasEncoding = { λ _. ⊤ };
 
     #[tactic(auto, unfolding(crate::specs::Items::command))]
     fn write(&self, out: &mut Writer) -> Result<(), NoMemory> {
@@ -70,7 +70,7 @@ impl Item for Request {
 
     ghost format = { request };
 
-    ghost HasSpelling = { λ _. ⊤ };
+    ghost HasEncoding = { λ _. ⊤ };
 
     #[tactic(auto, unfolding(crate::specs::Items::request))]
     fn write(&self, out: &mut Writer) -> Result<(), NoMemory> {
@@ -94,7 +94,7 @@ impl Item for Answer {
 
     ghost format = { answer };
 
-    ghost HasSpelling = { λ _. ⊤ };
+    ghost HasEncoding = { λ _. ⊤ };
 
     #[tactic(auto, unfolding(crate::specs::Items::answer))]
     fn write(&self, out: &mut Writer) -> Result<(), NoMemory> {

@@ -2,7 +2,7 @@ ghost use Rattle.std.specs.Prelude.{◌≡◌, OnOk};
 ghost use Rattle.curp_items.specs.Calls.{ReadsIfMemory, Skips, WritesItem};
 ghost use Rattle.curp_items.specs.Format.{optional};
 ghost use Rattle.curp_items.specs.Items as format;
-ghost use Rattle.curp_items.specs.Spelling.{HasSpelling};
+ghost use Rattle.curp_items.specs.Encoding.{HasEncoding};
 
 use crate::package::{read_package, skip_package, write_package};
 use crate::{Fault, Item, ReadError, Reader, Writer};
@@ -10,10 +10,10 @@ use curp_base::{NoMemory, Shared};
 use curp_cmd::{Entry, Pairs, Request, RequestId};
 use std::alloc::Global;
 
-/// Writes an entry's spelling.
+/// Writes an entry's encoding.
 #[tactic(auto, unfolding(crate::specs::Items::entry))]
 pub fn write_entry(entry: &Entry, out: &mut Writer) -> Result<(), NoMemory>
-    requires { HasSpelling entry.now }
+    requires { HasEncoding entry.now }
     ensures writes { WritesItem out.old out.new result (format.entry.of entry.now) }
     ensures fits { OnOk result (format.entry.Fits entry.now) }
 {
@@ -43,7 +43,7 @@ pub fn write_entry(entry: &Entry, out: &mut Writer) -> Result<(), NoMemory>
     }
 }
 
-/// Reads an entry from the front.
+/// Reads an entry from the prefix.
 #[tactic(auto, unfolding(crate::specs::Items::entry))]
 pub fn read_entry_at(alloc: Global, reader: &mut Reader) -> Result<Entry, ReadError>
     ensures { ReadsIfMemory result reader.new (format.entry.read reader.old) }

@@ -3,7 +3,7 @@ ghost use Rattle.std.specs.Prelude.{◌≡◌};
 use curp_base::NoMemory;
 use std::alloc::AllocFailed;
 
-/// Bytes are no spelling. The place is that of the first byte of the first item, from the left, that isn't whole or may
+/// Bytes are no encoding. The place is that of the first byte of the first item, from the left, that isn't whole or may
 /// not stand there.
 #[derive(Clone, Copy, Debug, PartialEq, Eq)]
 pub struct Fault {
@@ -13,7 +13,7 @@ pub struct Fault {
 /// Why a value that takes memory is not read.
 #[derive(Clone, Copy, Debug, PartialEq, Eq)]
 pub enum ReadError {
-    /// Bytes are no spelling, as a `Fault` says.
+    /// Bytes are no encoding, as a `Fault` says.
     Fault { place: u64 },
     /// There was no memory for the value.
     NoMemory,

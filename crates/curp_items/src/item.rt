@@ -8,19 +8,19 @@ pub trait Item: Copy {
     ghost use Rattle.curp_items.specs.Format.{Format};
     ghost use Rattle.curp_items.specs.Calls.{ReadsItem, WritesItem};
 
-    /// How it is spelled and read.
+    /// How it is encoded and read.
     ghost format: { Format Self };
 
-    /// Which values of the type have a spelling.
-    ghost HasSpelling: { Self → Type 0 };
+    /// Which values of the type have a encoding.
+    ghost HasEncoding: { Self → Type 0 };
 
-    /// Writes the value's spelling.
+    /// Writes the value's encoding.
     fn write(&self, out: &mut Writer) -> Result<(), NoMemory>
-        requires { HasSpelling self.now }
+        requires { HasEncoding self.now }
         ensures writes { WritesItem out.old out.new result (format.of self.now) }
         ensures fits { OnOk result (format.Fits self.now) };
 
-    /// Reads a value from the front.
+    /// Reads a value from the prefix.
     fn read(reader: &mut Reader) -> Result<Self, Fault>
         ensures { ReadsItem result reader.new (format.read reader.old) };
 }
@@ -30,7 +30,7 @@ impl Item for u32 {
 
     ghost format = { u32 };
 
-    ghost HasSpelling = { λ _. ⊤ };
+    ghost HasEncoding = { λ _. ⊤ };
 
     #[tactic(auto, unfolding(crate::specs::Items::u32))]
     fn write(&self, out: &mut Writer) -> Result<(), NoMemory> {
@@ -48,7 +48,7 @@ impl Item for u64 {
 
     ghost format = { u64 };
 
-    ghost HasSpelling = { λ _. ⊤ };
+    ghost HasEncoding = { λ _. ⊤ };
 
     #[tactic(auto, unfolding(crate::specs::Items::u64))]
     fn write(&self, out: &mut Writer) -> Result<(), NoMemory> {
@@ -66,7 +66,7 @@ impl Item for bool {
 
     ghost format = { truth };
 
-    ghost HasSpelling = { λ _. ⊤ };
+    ghost HasEncoding = { λ _. ⊤ };
 
     #[tactic(auto, unfolding(crate::specs::Items::truth))]
     fn write(&self, out: &mut Writer) -> Result<(), NoMemory> {
@@ -92,7 +92,7 @@ impl<T: Item> Item for Option<T> {
 
     ghost format = { optional T.format };
 
-    ghost HasSpelling = { λ item. IfSome item T.HasSpelling };
+    ghost HasEncoding = { λ item. IfSome item T.HasEncoding };
 
     fn write(&self, out: &mut Writer) -> Result<(), NoMemory> {
         match self {
@@ -119,7 +119,7 @@ impl<A: Item, B: Item> Item for (A, B) {
 
     ghost format = { A.format ▸ B.format };
 
-    ghost HasSpelling = { λ items. A.HasSpelling items.0 × B.HasSpelling items.1 };
+    ghost HasEncoding = { λ items. A.HasEncoding items.0 × B.HasEncoding items.1 };
 
     fn write(&self, out: &mut Writer) -> Result<(), NoMemory> {
         self.0.write(out)?;

@@ -1,12 +1,12 @@
 //! Items as bytes: numbers, names, keys, values, lists, commands, requests, answers, entries and packages.
 //!
-//! `Format.antt` has what a format is: how values are spelled, and how the front of bytes is read, with the place of the
-//! first fault; and what formats are made of (a tag, one behind the other, one of several, lists). What is spelled is read
-//! back, whatever follows it, what is read is spelled so, and no spelling begins another: once for each of these
+//! `Format.antt` has what a format is: how values are encoded, and how the prefix of bytes is read, with the place of the
+//! first fault; and what formats are made of (a tag, one behind the other, one of several, lists). What is encoded is read
+//! back, whatever follows it, what is read is encoded so, and no encoding begins another: once for each of these
 //! (`proofs/Formats`, `Combining`). `Items.antt` is the table, a line an item.
 //!
-//! - `pack_entry` spells an entry, where `spelled` says that it has a spelling; `read_entry` is exact, with the place of
-//!   the fault; `read_request` reads the request of an Op. `laws`: no entry's spelling begins another's.
+//! - `pack_entry` encodes an entry, where `encoded` says that it has a encoding; `read_entry` is exact, with the place of
+//!   the fault; `read_request` reads the request of an Op. `laws`: no entry's encoding begins another's.
 //! - `Reader`, `Writer`, `Item`, `read_list`, `read_package` and the others are what frames are read and written with.
 #![tactic(auto)]
 
@@ -34,6 +34,6 @@ pub use item::Item;
 pub use list::{read_list, write_list};
 pub use names::is_node;
 pub use package::{read_package, write_package};
-pub use packed::{EntryError, pack_entry, read_entry, read_request, spelled};
+pub use packed::{EntryError, pack_entry, read_entry, read_request, encoded};
 pub use reader::Reader;
 pub use writer::Writer;

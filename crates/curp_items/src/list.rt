@@ -9,9 +9,9 @@ use crate::{Item, ReadError, Reader, Writer};
 use curp_base::{Items, NoMemory};
 use std::alloc::Global;
 
-/// Writes the spellings of items, one behind the other.
+/// Writes the encodings of items, one behind the other.
 pub(crate) fn write_each<T: Item>(items: &[T], out: &mut Writer) -> Result<(), NoMemory>
-    requires { Each T.HasSpelling items.now }
+    requires { Each T.HasEncoding items.now }
     ensures writes { WritesItem out.old out.new result (flat_map T.format.of items.now) }
     ensures fits { OnOk result (Each T.format.Fits items.now) }
 {
@@ -24,7 +24,7 @@ pub(crate) fn write_each<T: Item>(items: &[T], out: &mut Writer) -> Result<(), N
 /// Writes how many items there are, and they.
 pub fn write_list<T: Item>(items: &[T], out: &mut Writer) -> Result<(), NoMemory>
     requires short { length items.now < 2 ^ 32 }
-    requires spelled { Each T.HasSpelling items.now }
+    requires encoded { Each T.HasEncoding items.now }
     ensures writes { WritesItem out.old out.new result ((list_of u32 T.format).of items.now) }
     ensures fits { OnOk result ((list_of u32 T.format).Fits items.now) }
 {

@@ -13,7 +13,7 @@ impl Item for Pairs {
 
     ghost format = { multi_pairs };
 
-    ghost HasSpelling = { λ _. ⊤ };
+    ghost HasEncoding = { λ _. ⊤ };
 
     #[tactic(auto, unfolding(crate::specs::Items::multi_pairs, crate::specs::Items::pair_count))]
     fn write(&self, out: &mut Writer) -> Result<(), NoMemory> {

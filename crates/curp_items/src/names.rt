@@ -11,7 +11,7 @@ impl Item for NodeId {
 
     ghost format = { node };
 
-    ghost HasSpelling = { λ n. is_node n ≡ true };
+    ghost HasEncoding = { λ n. is_node n ≡ true };
 
     #[tactic(auto, unfolding(crate::specs::Items::node))]
     fn write(&self, out: &mut Writer) -> Result<(), NoMemory> {
@@ -32,7 +32,7 @@ impl Item for RequestId {
 
     ghost format = { id };
 
-    ghost HasSpelling = { λ _. ⊤ };
+    ghost HasEncoding = { λ _. ⊤ };
 
     #[tactic(auto, unfolding(crate::specs::Items::id))]
     fn write(&self, out: &mut Writer) -> Result<(), NoMemory> {

@@ -1,7 +1,7 @@
 ghost use Rattle.std.specs.Prelude.{◌≡◌, OnOk};
 ghost use Rattle.curp_items.specs.Calls.{ReadsIfMemory, Skips, WritesItem};
 ghost use Rattle.curp_items.specs.Items as format;
-ghost use Rattle.curp_items.specs.Spelling.{HasTableSpelling, HasPackageSpelling};
+ghost use Rattle.curp_items.specs.Encoding.{HasTableEncoding, HasPackageEncoding};
 
 use crate::ascending::{read_keys, read_pairs, skip_keys, skip_pairs};
 use crate::list::write_list;
@@ -12,7 +12,7 @@ use std::alloc::Global;
 
 #[tactic(auto, unfolding(crate::specs::Items::table, crate::specs::Items::records, crate::specs::Items::firsts, crate::specs::Items::gone))]
 fn write_table(table: &TablePart, out: &mut Writer) -> Result<(), NoMemory>
-    requires { HasTableSpelling table.now }
+    requires { HasTableEncoding table.now }
     ensures writes { WritesItem out.old out.new result (format.table.of table.now) }
     ensures fits { OnOk result (format.table.Fits table.now) }
 {
@@ -45,10 +45,10 @@ fn skip_table(reader: &mut Reader) -> Result<(), Fault>
     skip_keys::<u32>(reader)
 }
 
-/// Writes a package's spelling.
+/// Writes a package's encoding.
 #[tactic(auto, unfolding(crate::specs::Items::package_format, crate::specs::Items::bounds, crate::specs::Items::pairs))]
 pub fn write_package(moved: &Package, out: &mut Writer) -> Result<(), NoMemory>
-    requires { HasPackageSpelling moved.now }
+    requires { HasPackageEncoding moved.now }
     ensures writes { WritesItem out.old out.new result (format.package_format.of moved.now) }
     ensures fits { OnOk result (format.package_format.Fits moved.now) }
 {
@@ -62,7 +62,7 @@ pub fn write_package(moved: &Package, out: &mut Writer) -> Result<(), NoMemory>
     Ok(())
 }
 
-/// Reads a package from the front.
+/// Reads a package from the prefix.
 #[tactic(auto, unfolding(crate::specs::Items::package_format, crate::specs::Items::pairs))]
 pub fn read_package(alloc: Global, reader: &mut Reader) -> Result<Package, ReadError>
     ensures { ReadsIfMemory result reader.new (format.package_format.read reader.old) }

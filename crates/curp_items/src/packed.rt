@@ -2,7 +2,7 @@ ghost use Rattle.std.specs.Prelude.{◌≡◌, ◌≢◌, ◌++◌, ℕ, Ok, Err
 ghost use Rattle.curp_cmd.specs.declared.entry.Entry.{Entry};
 ghost use Rattle.curp_cmd.specs.declared.command.Request.{Request};
 ghost use Rattle.curp_items.specs.Items.{entry};
-ghost use Rattle.curp_items.specs.Spelling.{HasSpelling, IsEntry, spelling, BeginsWithEntry, FaultsAt, request_in};
+ghost use Rattle.curp_items.specs.Encoding.{HasEncoding, IsEntry, encoding, BeginsWithEntry, FaultsAt, request_in};
 
 use crate::entry::{read_entry_at, skip_entry, write_entry};
 use crate::{Item, ReadError, Reader, Writer};
@@ -14,7 +14,7 @@ use std::mem;
 /// Why an entry is not read.
 #[derive(Clone, Copy, Debug, PartialEq, Eq)]
 pub enum EntryError {
-    /// The bytes begin with no entry's spelling. The place is that of the first byte of the first item, from the left,
+    /// The bytes begin with no entry's encoding. The place is that of the first byte of the first item, from the left,
     /// that isn't whole or may not stand there.
     BadEntry { place: u64 },
     /// There was no memory for the entry.
@@ -22,7 +22,7 @@ pub enum EntryError {
 }
 
 impl From<ReadError> for EntryError {
-    ghost use Rattle.curp_items.specs.Spelling.{entry_error};
+    ghost use Rattle.curp_items.specs.Encoding.{entry_error};
 
     ghost from_gives = { λ why e. e ≡ entry_error why };
 
@@ -34,10 +34,10 @@ impl From<ReadError> for EntryError {
     }
 }
 
-/// Appends the entry's spelling.
+/// Appends the entry's encoding.
 pub fn pack_entry(entry: &Entry, out: &mut Vec<u8>) -> Result<(), NoMemory>
-    requires { HasSpelling entry.now }
-    ensures ok { OnOk result (out.new.items ≡ out.old.items ++ spelling entry.now) }
+    requires { HasEncoding entry.now }
+    ensures ok { OnOk result (out.new.items ≡ out.old.items ++ encoding entry.now) }
     ensures entry { OnOk result (IsEntry entry.now) }
     ensures err { OnErr result (out.new.items ≡ out.old.items) }
 {
@@ -48,7 +48,7 @@ pub fn pack_entry(entry: &Entry, out: &mut Vec<u8>) -> Result<(), NoMemory>
     packed
 }
 
-/// The entry whose spelling the bytes begin with, and its length.
+/// The entry whose encoding the bytes begin with, and its length.
 pub fn read_entry(alloc: Global, bytes: &[u8]) -> Result<(Entry, usize), EntryError>
     ensures found { IfOk result (λ read. BeginsWithEntry bytes.now read.0 read.1) }
     ensures only { (e : Entry) (len : ℕ) → BeginsWithEntry bytes.now e len
@@ -60,8 +60,8 @@ pub fn read_entry(alloc: Global, bytes: &[u8]) -> Result<(Entry, usize), EntryEr
     Ok((entry, reader.place() as usize))
 }
 
-/// The length of the entry whose spelling the bytes begin with. It takes no memory.
-pub fn spelled(bytes: &[u8]) -> Option<u64>
+/// The length of the entry whose encoding the bytes begin with. It takes no memory.
+pub fn encoded(bytes: &[u8]) -> Option<u64>
     ensures found { IfSome result (λ len. (e : Entry) × BeginsWithEntry bytes.now e len) }
     ensures only { (e : Entry) (len : ℕ) → BeginsWithEntry bytes.now e len → result ≡ Some len }
 {
@@ -72,7 +72,7 @@ pub fn spelled(bytes: &[u8]) -> Option<u64>
     }
 }
 
-/// The request of the entry whose spelling the bytes begin with, where it has one. It takes no memory.
+/// The request of the entry whose encoding the bytes begin with, where it has one. It takes no memory.
 pub fn read_request(bytes: &[u8]) -> Option<Request>
     ensures found { IfSome result (λ request. (acknowledge len : ℕ)
         × BeginsWithEntry bytes.now (Entry.Op request acknowledge) len) }

@@ -83,9 +83,9 @@ impl<'a> Reader<'a> {
         if self.rest.len() < N {
             return Err(Fault { place: self.place });
         }
-        let (front, rest) = self.rest.split_at(N);
+        let (prefix, rest) = self.rest.split_at(N);
         let mut bytes = [0; N];
-        bytes.copy_from_slice(front);
+        bytes.copy_from_slice(prefix);
         self.place += N as u64;
         self.rest = rest;
         Ok(bytes)
@@ -101,9 +101,9 @@ impl<'a> Reader<'a> {
         if self.rest.len() < count {
             return Err(fault);
         }
-        let (front, rest) = self.rest.split_at(count);
+        let (prefix, rest) = self.rest.split_at(count);
         self.place += count as u64;
         self.rest = rest;
-        Ok(front)
+        Ok(prefix)
     }
 }

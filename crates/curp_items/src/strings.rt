@@ -9,7 +9,7 @@ impl Item for Key {
 
     ghost format = { key };
 
-    ghost HasSpelling = { λ _. ⊤ };
+    ghost HasEncoding = { λ _. ⊤ };
 
     #[tactic(auto, unfolding(crate::specs::Items::key))]
     fn write(&self, out: &mut Writer) -> Result<(), NoMemory> {
@@ -28,7 +28,7 @@ impl Item for Value {
 
     ghost format = { value };
 
-    ghost HasSpelling = { λ _. ⊤ };
+    ghost HasEncoding = { λ _. ⊤ };
 
     #[tactic(auto, unfolding(crate::specs::Items::value))]
     fn write(&self, out: &mut Writer) -> Result<(), NoMemory> {

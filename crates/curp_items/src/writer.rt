@@ -19,26 +19,26 @@ impl Model for Writer {
 
     ghost Value = { Written };
 
-    ghost view = { λ w. record { front = take w.start w.bytes.items; text = drop w.start w.bytes.items } };
+    ghost view = { λ w. record { prefix = take w.start w.bytes.items; text = drop w.start w.bytes.items } };
 
     ghost invariant = { λ w. w.start ≤ length w.bytes.items };
 }
 
 impl Writer {
     /// Writes behind these bytes. It takes no memory.
-    pub fn new(front: Vec<u8>) -> Writer
-        ensures { result ≡ record { front = front.items; text = [] } }
+    pub fn new(prefix: Vec<u8>) -> Writer
+        ensures { result ≡ record { prefix = prefix.items; text = [] } }
     {
-        let start = front.len();
+        let start = prefix.len();
         Writer {
-            bytes: front,
+            bytes: prefix,
             start,
         }
     }
 
     /// The bytes from before, and what was written behind them. It takes no memory.
     pub fn into_vec(self) -> Vec<u8>
-        ensures { result.items ≡ self.front ++ self.text }
+        ensures { result.items ≡ self.prefix ++ self.text }
     {
         self.bytes
     }

@@ -47,7 +47,7 @@ is_verdict status.Ok = true
 is_verdict (status.No clause) = true
 is_verdict _ = false
 
--- with no fault of its input and its output, it ends with a verdict, or for want of memory
+-- with no fault of its input and its output, it ends with a verdict, or out of memory
 abbrev pub EndsJudged : Status → (read_before read_after written_before written_after : ℕ) → Type 0
 EndsJudged s read_before read_after written_before written_after =
     (Rose read_before read_after → ⊥) → (Rose written_before written_after → ⊥) → (is_verdict s ≡ true) ⊎ (s ≡ status.NoMemory)
@@ -65,15 +65,15 @@ abbrev pub status_of_verdict : Verdict → Status
 status_of_verdict verdict.Yes = status.Ok
 status_of_verdict (verdict.No clause) = status.No clause
 
--- a front of a verdict was written, that of the claim that the bytes are
-pub record IsVerdictFront (bytes old new : List ℕ) : Type 0 where
+-- a prefix of a verdict was written, that of the claim that the bytes are
+pub record IsVerdictPrefix (bytes old new : List ℕ) : Type 0 where
   pub verdict : Status
   pub of_claim : EndsAs bytes verdict
   pub part : HoldsPart old new (verdict_text verdict)
 
--- nothing was written, or such a front
-abbrev pub IsJudgedFront : List ℕ → List ℕ → List ℕ → Type 0
-IsJudgedFront bytes old new = (new ≡ old) ⊎ IsVerdictFront bytes old new
+-- nothing was written, or such a prefix
+abbrev pub IsJudgedPrefix : List ℕ → List ℕ → List ℕ → Type 0
+IsJudgedPrefix bytes old new = (new ≡ old) ⊎ IsVerdictPrefix bytes old new
 
 -- ---- a claim that is read line by line
 

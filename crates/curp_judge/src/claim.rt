@@ -6,7 +6,7 @@ ghost use Rattle.curp_script.specs.Events.{event_in};
 ghost use Rattle.curp_script.specs.Script.{Whole};
 ghost use Rattle.curp_runner.specs.Reading.{IsBehind, IsOfReading, IsOfWriting};
 ghost use Rattle.curp_runner.specs.Status.{ended, is_cut_short};
-ghost use Rattle.curp_judge.specs.Check.{EndsAs, EndsJudged, GivesLineOf, IsBrokenClaim, IsJudgedFront, StopsAt, after_line, claim_due, is_verdict, status_of_verdict, verdict_text};
+ghost use Rattle.curp_judge.specs.Check.{EndsAs, EndsJudged, GivesLineOf, IsBrokenClaim, IsJudgedPrefix, StopsAt, after_line, claim_due, is_verdict, status_of_verdict, verdict_text};
 
 use curp_check::{CLAIM_LIMIT, Claim, Verdict, check};
 use curp_io::{Lines, NextLine, Sink, Source};
@@ -20,7 +20,7 @@ use std::alloc::Global;
 /// Nothing is written before the end of the input.
 pub fn check_claim<S: Source, K: Sink>(alloc: Global, source: &mut S, sink: &mut K) -> Status
     // It ends with the verdict on the claim, read to its end, or at the first line that is refused, is too long or is
-    // one too many, unless a fault or want of memory cuts it short.
+    // one too many, unless a fault or running out of memory cuts it short.
     ensures ends { S.tells source.old ≡ true → is_cut_short result ≡ false → EndsAs (S.left source.old) result }
     ensures yes { S.tells source.old ≡ true → is_cut_short result ≡ false
         → (result ≡ Status.Ok) ↔ IsClaimOfOrder (S.left source.old) }
@@ -30,11 +30,11 @@ pub fn check_claim<S: Source, K: Sink>(alloc: Global, source: &mut S, sink: &mut
     ensures complete { S.tells source.old ≡ true → (claim_in (S.left source.old)).ending ≡ Whole
         → EndsJudged result (S.faults source.old) (S.faults source.new) (K.faults sink.old) (K.faults sink.new) }
 
-    // It writes the verdict, if there is one, and passes it on; where it is cut short, it writes a front of it.
+    // It writes the verdict, if there is one, and passes it on; where it is cut short, it writes a prefix of it.
     ensures wrote { K.tells sink.old ≡ true → is_cut_short result ≡ false
         → K.held sink.new ≡ K.held sink.old ++ verdict_text result }
-    ensures front { S.tells source.old ≡ true → K.tells sink.old ≡ true
-        → IsJudgedFront (S.left source.old) (K.held sink.old) (K.held sink.new) }
+    ensures prefix { S.tells source.old ≡ true → K.tells sink.old ≡ true
+        → IsJudgedPrefix (S.left source.old) (K.held sink.old) (K.held sink.new) }
     ensures flushed { is_cut_short result ≡ false → K.flushed sink.new ≡ true }
 
     // A fault comes exactly where the count of faults rose first.
@@ -55,8 +55,8 @@ fn judge<S: Source, K: Sink>(alloc: Global, source: &mut S, sink: &mut K) -> Res
     ensures end { S.tells source.old ≡ true → is_verdict (ended result) ≡ true → S.left source.new ≡ [] }
     ensures wrote { K.tells sink.old ≡ true → is_cut_short (ended result) ≡ false
         → K.held sink.new ≡ K.held sink.old ++ verdict_text (ended result) }
-    ensures front { S.tells source.old ≡ true → K.tells sink.old ≡ true
-        → IsJudgedFront (S.left source.old) (K.held sink.old) (K.held sink.new) }
+    ensures prefix { S.tells source.old ≡ true → K.tells sink.old ≡ true
+        → IsJudgedPrefix (S.left source.old) (K.held sink.old) (K.held sink.new) }
     ensures tells { K.tells sink.old ≡ true → K.tells sink.new ≡ true }
     ensures read_fault { result ≡ Err Status.ReadFault → Rose (S.faults source.old) (S.faults source.new) }
     ensures no_read_fault { result ≢ Err Status.ReadFault → SameCount (S.faults source.old) (S.faults source.new) }
@@ -83,8 +83,8 @@ fn judge_claim<S: Source, K: Sink>(
     ensures end { S.tells source.old ≡ true → is_verdict (ended result) ≡ true → S.left source.new ≡ [] }
     ensures wrote { K.tells sink.old ≡ true → is_cut_short (ended result) ≡ false
         → K.held sink.new ≡ K.held sink.old ++ verdict_text (ended result) }
-    ensures front { S.tells source.old ≡ true → K.tells sink.old ≡ true
-        → IsJudgedFront (S.left source.old) (K.held sink.old) (K.held sink.new) }
+    ensures prefix { S.tells source.old ≡ true → K.tells sink.old ≡ true
+        → IsJudgedPrefix (S.left source.old) (K.held sink.old) (K.held sink.new) }
     ensures tells { K.tells sink.old ≡ true → K.tells sink.new ≡ true }
     ensures read_fault { result ≡ Err Status.ReadFault → Rose (S.faults source.old) (S.faults source.new) }
     ensures no_read_fault { result ≢ Err Status.ReadFault → SameCount (S.faults source.old) (S.faults source.new) }
@@ -102,7 +102,7 @@ fn judge_claim<S: Source, K: Sink>(
 fn write_verdict<K: Sink>(alloc: Global, verdict: Verdict, sink: &mut K) -> Result<(), Status>
     ensures wrote { K.tells sink.old ≡ true → is_cut_short (ended result) ≡ false
         → K.held sink.new ≡ K.held sink.old ++ verdict_text (status_of_verdict verdict) }
-    ensures front { K.tells sink.old ≡ true
+    ensures prefix { K.tells sink.old ≡ true
         → HoldsPart (K.held sink.old) (K.held sink.new) (verdict_text (status_of_verdict verdict)) }
     ensures verdict { is_cut_short (ended result) ≡ false → ended result ≡ status_of_verdict verdict }
     ensures cut { is_cut_short (ended result) ≡ true → IfErr result IsOfWriting }

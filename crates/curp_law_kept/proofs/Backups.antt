@@ -90,7 +90,7 @@ module _ {w v : World} (known : Known w) (s : Follows w v) (n : ℕ) (given : In
 
     same_log : (d : BackupState) → BackupOk v l d → (installed : Option ℕ) → ((epoch : ℕ) → installed ≡ Some epoch → epoch ≡ l.epoch) → (installed ≡ None → d.log ≡ [])
         → (fence : ℕ) → BackupOk v l (record { installed = installed; fence = fence; log = d.log })
-    same_log d ok installed own none fence = record { installed = own; empty = none; follows = elim ok.follows [ inl e ↦ inl e | inr f ↦ inr (record { its = f.its; its_log = f.its_log; front = f.front }) ] }
+    same_log d ok installed own none fence = record { installed = own; empty = none; follows = elim ok.follows [ inl e ↦ inl e | inr f ↦ inr (record { its = f.its; its_log = f.its_log; prefix = f.prefix }) ] }
 
     extended : Extends given b c → BackupOk v l c
     extended x =
@@ -99,14 +99,14 @@ module _ {w v : World} (known : Known w) (s : Follows w v) (n : ℕ) (given : In
         let master : l.master ≡ its.lists.master = (known.names.agree l its.lists here its.given).by_backup (backup_node n) named its.its_backup in
         let has : HasLog w l.master its.holds.l = subst (λ (node : NodeId). HasLog w node its.holds.l) (sym (master ∙ its.its_master)) its.holds.its_log in
         let o = log_later s l.master its.holds.l has in
-        let front : IsPrefix b.log its.holds.l.log = begins has in
-        let longer_front : IsPrefix (longer b.log x.append.base x.append.entries) its.holds.l.log
-        = overlap x.append.base (length b.log - x.append.base) b.log x.append.entries its.holds.l.log (omega (arith, x.no_gap)) front its.holds.part in
+        let prefix : IsPrefix b.log its.holds.l.log = begins has in
+        let longer_prefix : IsPrefix (longer b.log x.append.base x.append.entries) its.holds.l.log
+        = overlap x.append.base (length b.log - x.append.base) b.log x.append.entries its.holds.l.log (omega (arith, x.no_gap)) prefix its.holds.part in
         subst (BackupOk v l) (sym x.after)
         (record {
           installed = before.installed;
           empty = λ none. absurd (installed none x.own_epoch);
-          follows = inr (record { its = o.0; its_log = o.1; front = prefix_trans longer_front o.2 });
+          follows = inr (record { its = o.0; its_log = o.1; prefix = prefix_trans longer_prefix o.2 });
         })
       where
         installed : {e : ℕ} → b.installed ≡ None → b.installed ≡ Some e → ⊥
@@ -120,7 +120,7 @@ module _ {w v : World} (known : Known w) (s : Follows w v) (n : ℕ) (given : In
         begins : {x : Logged} → HasLog w l.master x → IsPrefix b.log x.log
         begins {x} has = elim before.follows [
           | inl none ↦ record { rest = x.log; is = ap (λ (es : List Entry). es ++ x.log) none }
-          | inr f ↦ subst (λ (k : Logged). IsPrefix b.log k.log) (one_log f.its x f.its_log has) f.front
+          | inr f ↦ subst (λ (k : Logged). IsPrefix b.log k.log) (one_log f.its x f.its_log has) f.prefix
         ]
 
     pub backup_keeps : BackupMove given b c → BackupOk v l c

@@ -63,7 +63,7 @@ other_lists v l k master epoch b ok = record {
   empty = ok.empty;
   follows = elim ok.follows [
     | inl none ↦ inl none
-    | inr f ↦ inr (record { its = f.its; its_log = subst (λ (node : NodeId). HasLog v node f.its) master f.its_log; front = f.front })
+    | inr f ↦ inr (record { its = f.its; its_log = subst (λ (node : NodeId). HasLog v node f.its) master f.its_log; prefix = f.prefix })
   ];
 }
 

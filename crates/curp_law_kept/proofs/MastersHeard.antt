@@ -54,12 +54,12 @@ abbrev pub serving_log : (w : World) (node : NodeId) (m : MasterState) → IsMas
 serving_log w node m is = record { m = Serving m; is = is; its_log = refl }
 
 -- the beginning of a log is one
-pub log_ok_front : (w : World) (part : ℕ) (xs ys : List Entry) → IsPrefix xs ys → LogOk w part ys → LogOk w part xs
-log_ok_front w part xs ys front ok = record {
-  is_log = log_prefix (lo_of w part) (hi_of w part) xs ys front ok.is_log;
-  takes = λ j k before after p q low a b. ok.takes j k before after p q low (prefix_at front j _ a) (prefix_at front k _ b);
-  gives = λ j k before after p q low a b. ok.gives j k before after p q low (prefix_at front j _ a) (prefix_at front k _ b);
-  entries = Each-from_at (EntryOk w part) xs (λ k e at. Each-at (EntryOk w part) ys ok.entries k e (prefix_at front k e at));
+pub log_ok_prefix : (w : World) (part : ℕ) (xs ys : List Entry) → IsPrefix xs ys → LogOk w part ys → LogOk w part xs
+log_ok_prefix w part xs ys prefix ok = record {
+  is_log = log_prefix (lo_of w part) (hi_of w part) xs ys prefix ok.is_log;
+  takes = λ j k before after p q low a b. ok.takes j k before after p q low (prefix_at prefix j _ a) (prefix_at prefix k _ b);
+  gives = λ j k before after p q low a b. ok.gives j k before after p q low (prefix_at prefix j _ a) (prefix_at prefix k _ b);
+  entries = Each-from_at (EntryOk w part) xs (λ k e at. Each-at (EntryOk w part) ys ok.entries k e (prefix_at prefix k e at));
 }
 
 -- the empty log is one
@@ -70,10 +70,10 @@ log_ok_none w part xs none = subst (LogOk w part) (sym none) (record { is_log = 
     nothing j at = cc
 
 -- the log of a backup of given lists is a beginning of their master's
-pub backup_front : (u : World) (l : Lists) (its : Logged) → HasLog u l.master its → (b : BackupState) → BackupOk u l b → IsPrefix b.log its.log
-backup_front u l its has b ok = elim ok.follows [
+pub backup_prefix : (u : World) (l : Lists) (its : Logged) → HasLog u l.master its → (b : BackupState) → BackupOk u l b → IsPrefix b.log its.log
+backup_prefix u l its has b ok = elim ok.follows [
   | inl none ↦ record { rest = its.log; is = ap (λ (es : List Entry). es ++ its.log) none }
-  | inr f ↦ subst (λ (k : Logged). IsPrefix b.log k.log) (one_log u l.master f.its its f.its_log has) f.front
+  | inr f ↦ subst (λ (k : Logged). IsPrefix b.log k.log) (one_log u l.master f.its its f.its_log has) f.prefix
 ]
 
 module _ {w : World} (known : Known w) where
@@ -107,7 +107,7 @@ module _ {w : World} (known : Known w) where
   pub backup_log_ok : (l : Lists) → IsGiven w l → (b : BackupState) → BackupOk w l b → LogOk w l.part b.log
   backup_log_ok l given b ok = elim ok.follows [
     | inl none ↦ log_ok_none w l.part b.log none
-    | inr f ↦ log_ok_front w l.part b.log f.its.log f.front (logged_ok l given f.its f.its_log)
+    | inr f ↦ log_ok_prefix w l.part b.log f.its.log f.prefix (logged_ok l given f.its f.its_log)
   ]
 
   -- ---- the version of an order
@@ -152,7 +152,7 @@ module _ {w : World} (known : Known w) where
       answered from a home (Stored long) k =
           let its : AppendSaid w (master_node n) from k.append = said known (master_node n) from (body.Append k.append) k.sent in
           let log : HasLog w home.lists.master (record { log = m.log; round = m.round }) = subst (λ (x : NodeId). HasLog w x (record { log = m.log; round = m.round })) (sym home.its_master) its_log in
-          let within = prefix_length (backup_front w home.lists _ log k.b (known.inv.backups home.lists home.given from home.its_backup k.b k.is)) in
+          let within = prefix_length (backup_prefix w home.lists _ log k.b (known.inv.backups home.lists home.given from home.its_backup k.b k.is)) in
           let round : its.holds.l.round ≡ m.round = ap (λ (x : Logged). x.round) (one_log w (master_node n) its.holds.l _ its.holds.its_log its_log) in
           (record { b = k.b; is = k.is; low = k.low }, omega (arith, within, k.low), omega (arith, its.holds.begun, k.its_round, round))
       answered from a home _ k = tt

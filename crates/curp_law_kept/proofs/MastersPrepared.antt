@@ -23,7 +23,7 @@ use Rattle.curp_facts.specs.Said.{AppendSaid}
 use Rattle.curp_law_kept.proofs.Apart.{not_both}
 use Rattle.curp_facts.specs.Known.{Known}
 use Rattle.curp_law_kept.proofs.Known.{said}
-use Rattle.curp_law_kept.proofs.MastersHeard.{backup_front, one_log, serving_log}
+use Rattle.curp_law_kept.proofs.MastersHeard.{backup_prefix, one_log, serving_log}
 use Rattle.curp_law_kept.proofs.MastersMoves.{MasterStep}
 use Rattle.curp_law_kept.proofs.MastersReady.{next_given, no_switch, step_follows}
 use Rattle.curp_law_kept.proofs.Moved.{at_back, sent_now}
@@ -171,9 +171,9 @@ module _ {w v : World} (known : Known w) {n : ℕ} {from : NodeId} {heard : Opti
         go : (i : ℕ) (node : NodeId) → At t.backups i node → (b : BackupState) → IsBackup v node b → IsPrefix (take (length y.log) y.log) b.log
         go i node at b is =
             let was : IsBackup w node b = record { its_kind = is.its_kind; its_state = subst (λ (bs : List BackupState). numbered bs node.number ≡ Some b) s.backups is.its_state } in
-            let front : IsPrefix b.log x.log = backup_front w _ _ (serving_log w (master_node n) x s.was) b (known.inv.backups _ given node (record { place = i; stands = at }) b was) in
+            let prefix : IsPrefix b.log x.log = backup_prefix w _ _ (serving_log w (master_node n) x s.was) b (known.inv.backups _ given node (record { place = i; stands = at }) b was) in
             let many : length y.log ≤ length b.log = Each-at (HasMany w (length y.log)) t.backups (acknowledged_many w y move.acknowledged (length y.log) t.backups all) i node at b was in
-            let same : b.log ≡ x.log = prefix_whole b.log x.log front (omega (arith, many, same_long)) in
+            let same : b.log ≡ x.log = prefix_whole b.log x.log prefix (omega (arith, many, same_long)) in
             subst (λ (es : List Entry). IsPrefix es b.log) (same ∙ sym log ∙ sym whole) (prefix_self b.log)
 
     first_says : PreparedOk v (master_node n) version

@@ -22,7 +22,7 @@ use Rattle.curp_facts.specs.Nodes.{IsWaiting, RecovererOk, ReplayedOk, StageOk}
 use Rattle.curp_facts.specs.Reach.{HasMany, HasStored, Reach, RecoveredTo}
 use Rattle.curp_facts.specs.Said.{AppendSaid, IsOrderedTo, RecoveredSaid, Says}
 use Rattle.curp_facts.specs.Known.{Known}
-use Rattle.curp_law_kept.proofs.MastersHeard.{backup_front}
+use Rattle.curp_law_kept.proofs.MastersHeard.{backup_prefix}
 use Rattle.curp_law_kept.proofs.MastersKept.{master_keeps}
 use Rattle.curp_law_kept.proofs.MastersMoves.{MasterStep}
 use Rattle.curp_law_kept.proofs.MastersPrepared.{prefix_whole}
@@ -98,11 +98,11 @@ module _ {w v : World} (known : Known w) {n : ℕ} {from : NodeId} {heard : Opti
     backup_was node b now = record { its_kind = now.its_kind; its_state = subst (λ (bs : List BackupState). numbered bs node.number ≡ Some b) s.backups now.its_state }
 
     -- each fresh backup has the whole log
-    fronts : Each (λ node. (b : BackupState) → IsBackup v node b → IsPrefix r.log b.log) t.order.backups
-    fronts = Each-from_at (λ node. (b : BackupState) → IsBackup v node b → IsPrefix r.log b.log) t.order.backups (λ i node at b now.
+    prefixes : Each (λ node. (b : BackupState) → IsBackup v node b → IsPrefix r.log b.log) t.order.backups
+    prefixes = Each-from_at (λ node. (b : BackupState) → IsBackup v node b → IsPrefix r.log b.log) t.order.backups (λ i node at b now.
         let before = known.inv.backups lists given node (record { place = i; stands = at }) b (backup_was node b now) in
-        let front : IsPrefix b.log r.log = backup_front v lists _ its_log b (backup_ok_later f lists b before) in
-        let same : b.log ≡ r.log = prefix_whole b.log r.log front (Each-at (HasMany v (length r.log)) t.order.backups many i node at b now) in
+        let prefix : IsPrefix b.log r.log = backup_prefix v lists _ its_log b (backup_ok_later f lists b before) in
+        let same : b.log ≡ r.log = prefix_whole b.log r.log prefix (Each-at (HasMany v (length r.log)) t.order.backups many i node at b now) in
         subst (λ (es : List Entry). IsPrefix es b.log) same (prefix_self b.log))
 
     -- only its own lists are ready
@@ -139,10 +139,10 @@ module _ {w v : World} (known : Known w) {n : ℕ} {from : NodeId} {heard : Opti
               its_witness = record { its_kind = from.its_witness.its_kind; its_state = subst (λ (xs : List WitnessState). numbered xs t.order.witness.number ≡ Some from.x) (sym s.witnesses) from.its_witness.its_state };
               frozen = from.frozen;
             };
-            on_all = subst (λ (es : List Entry). Each (λ node. (b : BackupState) → IsBackup v node b → IsPrefix es b.log) t.order.backups) replayed.replayed.is fronts;
+            on_all = subst (λ (es : List Entry). Each (λ node. (b : BackupState) → IsBackup v node b → IsPrefix es b.log) t.order.backups) replayed.replayed.is prefixes;
           };
           its_part = sym part;
-          front = r.log;
+          prefix = r.log;
           is_replay = replayed.replayed.is;
           l = record { log = r.log; round = r.round };
           its_log = its_log;

@@ -25,7 +25,7 @@ use Rattle.curp_law_line.proofs.Adopting.{Adopting, again, cut_part, done, gone,
 use Rattle.curp_law_line.proofs.Hashes.{key_touches}
 use Rattle.curp_law_line.proofs.Lists.{Distinct, distinct_filter, distinct_places, from_filter, in_cases, in_filter, in_left, in_right, only_one}
 use Rattle.curp_base.proofs.Numbered.{numbered_set_cases}
-use Rattle.curp_law_line.proofs.Orders.{Split, answered_is, answered_there, distinct_append, front_at, front_of, same_fronts, split_in}
+use Rattle.curp_law_line.proofs.Orders.{Split, answered_is, answered_there, distinct_append, place_in_prefix, prefix_of, same_prefixes, split_in}
 use Rattle.curp_law_line.proofs.Requests.{asked_all_in, asked_of_in, first_on, in_asked_all}
 use Rattle.curp_model.proofs.Replays.{op_in_ops}
 use Rattle.curp_law_logs.proofs.Behind.{came_from_append, came_kept}
@@ -70,13 +70,13 @@ module _ (it : Adopting) where
       let m : In x (order_was it) = (w.place, w.stands) in
       let was = answered_is (order_was it) x a w in
       let is = split_in (order_now it) x (kept_in x m not_gone) in
-      let fronts : (h : ℕ) → touches x.1 h ≡ true → on h was.0.front ≡ on h is.front = λ h t.
+      let prefixes : (h : ℕ) → touches x.1 h ≡ true → on h was.0.prefix ≡ on h is.prefix = λ h t.
       let c = cut_at it h in
-      let there : In x (c.front ++ on h (gone it)) = subst (In x) c.is (in_filter (λ (z : Asked). touches z.1 h) (order_was it) x m t) in
-      let front : In x c.front = elim (in_cases c.front (on h (gone it)) x there) [ inl y ↦ y | inr g ↦ absurd (not_gone (from_filter (λ (z : Asked). touches z.1 h) (gone it) x g).0) ] in
-      let sc = split_in c.front x front in
-      front_of h (order_was it) c.front (on h (gone it)) x t (was_distinct_on it h) c.is was.0 sc ∙ sym (front_of h (order_now it) c.front (on h (again it)) x t (now_distinct_on h) (after_line it h c.front c.is) is sc) in
-      subst (AnsweredInOrder (order_now it) x) (sym (was.1 ∙ same_fronts it.pure was.0.front is.front x fronts)) (answered_there (order_now it) x is)
+      let there : In x (c.prefix ++ on h (gone it)) = subst (In x) c.is (in_filter (λ (z : Asked). touches z.1 h) (order_was it) x m t) in
+      let prefix : In x c.prefix = elim (in_cases c.prefix (on h (gone it)) x there) [ inl y ↦ y | inr g ↦ absurd (not_gone (from_filter (λ (z : Asked). touches z.1 h) (gone it) x g).0) ] in
+      let sc = split_in c.prefix x prefix in
+      prefix_of h (order_was it) c.prefix (on h (gone it)) x t (was_distinct_on it h) c.is was.0 sc ∙ sym (prefix_of h (order_now it) c.prefix (on h (again it)) x t (now_distinct_on h) (after_line it h c.prefix c.is) is sc) in
+      subst (AnsweredInOrder (order_now it) x) (sym (was.1 ∙ same_prefixes it.pure was.0.prefix is.prefix x prefixes)) (answered_there (order_now it) x is)
 
   -- at one hash one request is replayed at most
   pub again_alone : (h : ℕ) (x : Asked) → In x (on h (again it)) → on h (again it) ≡ x ∷ []
@@ -86,7 +86,7 @@ module _ (it : Adopting) where
   pub in_now : (h : ℕ) (x : Asked) → In x (on h (again it)) → In x (order_now it)
   in_now h x m =
       let c = cut_at it h in
-      (from_filter (λ (z : Asked). touches z.1 h) (order_now it) x (subst (In x) (sym (after_line it h c.front c.is)) (in_right c.front (on h (again it)) x m))).0
+      (from_filter (λ (z : Asked). touches z.1 h) (order_now it) x (subst (In x) (sym (after_line it h c.prefix c.is)) (in_right c.prefix (on h (again it)) x m))).0
 
   -- what is replayed is answered as over what stays
   pub replayed_answer : (j : ℕ) (q : Request) → At (replayed it) j q → AnsweredInOrder (order_now it) (q.id, q.command) (answer_after it.move.p.lo it.move.p.hi it.move.stays q.command)
@@ -97,10 +97,10 @@ module _ (it : Adopting) where
       let mA : In x (again it) = in_asked_all (replayed it) j q hq in
       let on_it : (h : ℕ) → touches q.command h ≡ true → In x (on h (again it)) = λ h t. in_filter (λ (z : Asked). touches z.1 h) (again it) x mA t in
       let is = split_in (order_now it) x (in_now a.hash x (on_it a.hash a.has_hash)) in
-      subst (AnsweredInOrder (order_now it) x) (it.pure.answer_local (store_after nothing is.front) (state_of (cut_part it.move)).store q.command (λ key mk. key_value j q hq is on_it key mk)) (answered_there (order_now it) x is)
+      subst (AnsweredInOrder (order_now it) x) (it.pure.answer_local (store_after nothing is.prefix) (state_of (cut_part it.move)).store q.command (λ key mk. key_value j q hq is on_it key mk)) (answered_there (order_now it) x is)
     where
       key_value : (j : ℕ) (q : Request) → At (replayed it) j q → (is : Split (order_now it) (q.id, q.command)) → ((h : ℕ) → touches q.command h ≡ true → In (q.id, q.command) (on h (again it))) → (key : List ℕ) → In key (keys_of q.command)
-          → value key is.front ≡ store.get (state_of (cut_part it.move)).store key
+          → value key is.prefix ≡ store.get (state_of (cut_part it.move)).store key
       key_value j q hq is on_it key mk =
           let h = hash_of key in
           let x : Asked = (q.id, q.command) in
@@ -110,9 +110,9 @@ module _ (it : Adopting) where
           let here = at_hash it h (it.ground.held_before h own none) in
           let X : List Asked = here.past ++ behind h it.move.stays in
           let line : on h (order_now it) ≡ X ++ x ∷ [] = after_line it h X (cut_line it h here none (no_take it h own)) ∙ ap (λ w. X ++ w) (again_alone h x (on_it h t)) in
-          let front : on h is.front ≡ X = front_at h (order_now it) X [] x t (now_distinct_on h) line is in
+          let prefix : on h is.prefix ≡ X = place_in_prefix h (order_now it) X [] x t (now_distinct_on h) line is in
           let came_P : (other : List ℕ) → came h other it.move.p.log ≡ came h other it.move.stays = λ other. ap (came h other) it.fits.is ∙ came_from_append h other None it.move.stays it.move.goes ∙ came_kept h other (came h other it.move.stays) it.move.goes none in
-          it.pure.value_local key is.front ∙ ap (value key) front ∙ sym (it.ground.its_value h own key refl here.past (λ other same. here.values other same ∙ came_P other))
+          it.pure.value_local key is.prefix ∙ ap (value key) prefix ∙ sym (it.ground.its_value h own key refl here.past (λ other same. here.values other same ∙ came_P other))
 
   -- an op that stood elsewhere doesn't go
   pub elsewhere : (n : ℕ) (q : Part) (i : ℕ) (r : Request) (a : ℕ) → numbered it.line.parts n ≡ Some q → At q.log i (Op r a) → (n ≢ it.move.part) ⊎ (i < length it.move.stays) → In (r.id, r.command) (gone it) → ⊥
@@ -211,11 +211,11 @@ module _ (it : Adopting) where
           let was = answered_is (order_was it) x a w in
           let is = split_in (order_now it) x (in_left (filter (keeps_on it) (order_was it)) (filter (not_done it) (again it)) x (in_filter (keeps_on it) (order_was it) x m (or_left (done it x.0) _ d))) in
           let mA : In x (again it) = kept_done it x g d in
-          let fronts : (h : ℕ) → touches x.1 h ≡ true → on h was.0.front ≡ on h is.front = λ h tx.
+          let prefixes : (h : ℕ) → touches x.1 h ≡ true → on h was.0.prefix ≡ on h is.prefix = λ h tx.
           let cu = cut_at it h in
           let tr : touches t.1.command h ≡ true = ap (λ (z : Asked). touches z.1 h) t.4 ∙ tx in
           let f = first_on h it.move.goes t.0 t.1 t.2 t.3 (q.1 h tr) tr in
-          let line : on h (order_was it) ≡ cu.front ++ x ∷ f.0 = cu.is ∙ ap (λ w. cu.front ++ w) (f.1 ∙ ap (λ (z : Asked). z ∷ f.0) t.4) in
-          let after_it : on h (order_now it) ≡ cu.front ++ x ∷ [] = after_line it h cu.front cu.is ∙ ap (λ w. cu.front ++ w) (again_alone h x (in_filter (λ (z : Asked). touches z.1 h) (again it) x mA tx)) in
-          front_at h (order_was it) cu.front f.0 x tx (was_distinct_on it h) line was.0 ∙ sym (front_at h (order_now it) cu.front [] x tx (now_distinct_on h) after_it is) in
-          subst (AnsweredInOrder (order_now it) x) (sym (was.1 ∙ same_fronts it.pure was.0.front is.front x fronts)) (answered_there (order_now it) x is)
+          let line : on h (order_was it) ≡ cu.prefix ++ x ∷ f.0 = cu.is ∙ ap (λ w. cu.prefix ++ w) (f.1 ∙ ap (λ (z : Asked). z ∷ f.0) t.4) in
+          let after_it : on h (order_now it) ≡ cu.prefix ++ x ∷ [] = after_line it h cu.prefix cu.is ∙ ap (λ w. cu.prefix ++ w) (again_alone h x (in_filter (λ (z : Asked). touches z.1 h) (again it) x mA tx)) in
+          place_in_prefix h (order_was it) cu.prefix f.0 x tx (was_distinct_on it h) line was.0 ∙ sym (place_in_prefix h (order_now it) cu.prefix [] x tx (now_distinct_on h) after_it is) in
+          subst (AnsweredInOrder (order_now it) x) (sym (was.1 ∙ same_prefixes it.pure was.0.prefix is.prefix x prefixes)) (answered_there (order_now it) x is)

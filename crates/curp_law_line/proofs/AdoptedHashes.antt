@@ -168,12 +168,12 @@ module _ (it : Adopting) where
   ]
 
   -- what came before the last give is known, as before
-  pub own_known : (h : ℕ) (here : HashOk it.line.moving it.line.parts (order_was it) it.move.p h) → NoGive h it.move.goes → (x : Asked) → In x here.past → (front back : List Entry) → front ++ back ≡ (new_part it).log → NoGive h back → NotNew it.move.p.lo it.move.p.hi front x.0
-  own_known h here none x m front back is free = elim (split_append front back it.move.stays (ops (replayed it)) is) [
+  pub own_known : (h : ℕ) (here : HashOk it.line.moving it.line.parts (order_was it) it.move.p h) → NoGive h it.move.goes → (x : Asked) → In x here.past → (prefix back : List Entry) → prefix ++ back ≡ (new_part it).log → NoGive h back → NotNew it.move.p.lo it.move.p.hi prefix x.0
+  own_known h here none x m prefix back is free = elim (split_append prefix back it.move.stays (ops (replayed it)) is) [
     | inl mid ↦
         let no_mid : NoGive h mid.0 = (or_parts _ _ (sym (list_any-append (gives h) mid.0 (ops (replayed it))) ∙ subst (NoGive h) mid.1 free)).0 in
-        let whole : front ++ (mid.0 ++ it.move.goes) ≡ it.move.p.log = sym (append_assoc front mid.0 it.move.goes) ∙ ap (λ w. w ++ it.move.goes) mid.2 ∙ sym it.fits.is in
-        here.known x m front (mid.0 ++ it.move.goes) whole (list_any-append (gives h) mid.0 it.move.goes ∙ (λ i. no_mid i || none i))
+        let whole : prefix ++ (mid.0 ++ it.move.goes) ≡ it.move.p.log = sym (append_assoc prefix mid.0 it.move.goes) ∙ ap (λ w. w ++ it.move.goes) mid.2 ∙ sym it.fits.is in
+        here.known x m prefix (mid.0 ++ it.move.goes) whole (list_any-append (gives h) mid.0 it.move.goes ∙ (λ i. no_mid i || none i))
     | inr mid ↦ subst (λ (es : List Entry). NotNew it.move.p.lo it.move.p.hi es x.0) (sym mid.1) (stays_known it.move.p.lo it.move.p.hi it.move.stays mid.0 x.0 (here.known x m it.move.stays it.move.goes (sym it.fits.is) none))
   ]
 

@@ -30,7 +30,7 @@ use Rattle.curp_law_line.specs.Hashes.{HashOk, has_take, holds, is_take, onward,
 use Rattle.curp_law_line.specs.Line.{IsCompleted, Ungiven}
 use Rattle.curp_law_line.specs.Moves.{ops}
 use Rattle.curp_law_line.proofs.AdoptedMarks.{stays}
-use Rattle.curp_law_line.proofs.Adopting.{Adopting, Fronts, again, cut_part, done, gone, is_done, is_gone, keeps_on, new_part, not_done, order_now, order_was, parts_now, replayed}
+use Rattle.curp_law_line.proofs.Adopting.{Adopting, Prefixes, again, cut_part, done, gone, is_done, is_gone, keeps_on, new_part, not_done, order_now, order_was, parts_now, replayed}
 use Rattle.curp_law_line.proofs.Entries.{take_ungiven}
 use Rattle.curp_law_line.proofs.Hashes.{behind_in, no_onward, update_mark, update_no_cut, update_place}
 use Rattle.curp_law_line.proofs.Lines.{has_moving}
@@ -275,18 +275,18 @@ module _ (it : Adopting) where
       here.alike ∙ (λ i. here.past ++ (line_is h none i ++ no_onward_unless h free i)) ∙ ap (λ w. here.past ++ w) (append-nil (behind h it.move.stays ++ on h (gone it))) ∙ sym (append_assoc here.past (behind h it.move.stays) (on h (gone it)))
 
   -- the order at each hash ends with what goes
-  pub cut_at : (h : ℕ) → Fronts h (order_was it) (gone it)
+  pub cut_at : (h : ℕ) → Prefixes h (order_was it) (gone it)
   cut_at h = elim (some_or_none (on h (gone it))) [
-    | inl none ↦ record { front = on h (order_was it); is = sym (ap (λ w. on h (order_was it) ++ w) none ∙ append-nil (on h (order_was it))) }
+    | inl none ↦ record { prefix = on h (order_was it); is = sym (ap (λ w. on h (order_was it) ++ w) none ∙ append-nil (on h (order_was it))) }
     | inr some ↦
         let b = gone_on h some.0 some.1 in
         let here = at_hash h b.0 in
         elim (cases_Bool (list_any (gives h) it.move.goes)) [
           | inl y ↦ record {
-            front = here.past;
+            prefix = here.past;
             is = here.alike ∙ (λ i. here.past ++ (it.ground.behind_give h y i ++ no_onward_unless h b.1 i)) ∙ ap (λ w. here.past ++ w) (append-nil (on h (gone it)));
           }
-          | inr n ↦ record { front = here.past ++ behind h it.move.stays; is = cut_line h here n b.1 }
+          | inr n ↦ record { prefix = here.past ++ behind h it.move.stays; is = cut_line h here n b.1 }
         ]
   ]
 
@@ -302,18 +302,18 @@ module _ (it : Adopting) where
       known : (x : Asked) → In x (on h (again it)) → done it x.0 ≡ true → In x (on h (gone it))
       known x m d = let f = from_filter (λ (z : Asked). touches z.1 h) (again it) x m in in_filter (λ (z : Asked). touches z.1 h) (gone it) x (known_done x f.0 d) f.1
 
-      in_front : (x : Asked) → In x X → keeps_on it x ≡ true
-      in_front x m =
+      in_prefix : (x : Asked) → In x X → keeps_on it x ≡ true
+      in_prefix x m =
           let f = from_filter (λ (z : Asked). touches z.1 h) (order_was it) x (subst (In x) (sym is) (in_left X (on h (gone it)) x m)) in
           elim (cases_Bool (is_gone it x)) [
             | inl y ↦ absurd (distinct_split X (on h (gone it)) (subst Distinct is (was_distinct_on h)) x x m (in_filter (λ (z : Asked). touches z.1 h) (gone it) x (gone_by_test x f.0 y) f.1) refl)
             | inr n ↦ or_right (done it x.0) _ (ap not n)
           ]
 
-      behind_front : (x : Asked) → In x (on h (gone it)) → keeps_on it x ≡ done it x.0
-      behind_front x m = let f = from_filter (λ (z : Asked). touches z.1 h) (gone it) x m in ap (λ (b : Bool). done it x.0 || not b) (test_gone x f.0) ∙ or-false (done it x.0)
+      behind_prefix : (x : Asked) → In x (on h (gone it)) → keeps_on it x ≡ done it x.0
+      behind_prefix x m = let f = from_filter (λ (z : Asked). touches z.1 h) (gone it) x m in ap (λ (b : Bool). done it x.0 || not b) (test_gone x f.0) ∙ or-false (done it x.0)
 
       kept_part : on h (filter (keeps_on it) (order_was it)) ≡ X ++ filter (is_done it) (on h (gone it))
       kept_part =
           filter_swap (λ (z : Asked). touches z.1 h) (keeps_on it) (order_was it) ∙ ap (filter (keeps_on it)) is ∙ filter-append (keeps_on it) X (on h (gone it))
-          ∙ (λ i. filter_full (keeps_on it) X in_front i ++ filter_alike (keeps_on it) (is_done it) (on h (gone it)) behind_front i)
+          ∙ (λ i. filter_full (keeps_on it) X in_prefix i ++ filter_alike (keeps_on it) (is_done it) (on h (gone it)) behind_prefix i)

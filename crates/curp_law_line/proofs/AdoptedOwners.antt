@@ -16,7 +16,7 @@ use Rattle.curp_cmd.specs.declared.entry.Entry.TheVariants.{Expire, Give, Op, Ta
 use Rattle.curp_model.specs.Laws.{clash}
 use Rattle.curp_model.specs.Log.{answer_after, meaning}
 use Rattle.curp_model.specs.Manager.{Migration}
-use Rattle.curp_model.proofs.Clashes.{front_apart}
+use Rattle.curp_model.proofs.Clashes.{prefix_apart}
 use Rattle.curp_model.proofs.Replays.{log_stored, stored, take_ops}
 use Rattle.curp_law_logs.specs.Hashes.{NoGive, gives}
 use Rattle.curp_law_line.specs.Hashes.{Part, has_take, is_give, is_take, owns}
@@ -213,12 +213,12 @@ module _ (s : LineState) (ok : Owned s.moving s.parts) (o : Adopt) (fits : Adopt
 -- ---- what is replayed is answered as it would be alone
 
 module _ (second : (s : Contents) (a b : Command) → conflicts a b ≡ false → (applied (applied s a).after b).answer ≡ (applied s b).answer) where
-  answers_alone : (front : List Request) (c : Contents) (q : Request) → AllByRecursion (λ (r : Request). conflicts r.command q.command ≡ false) front → (applied (stored c front) q.command).answer ≡ (applied c q.command).answer
+  answers_alone : (prefix : List Request) (c : Contents) (q : Request) → AllByRecursion (λ (r : Request). conflicts r.command q.command ≡ false) prefix → (applied (stored c prefix) q.command).answer ≡ (applied c q.command).answer
   answers_alone [] c q apart = refl
-  answers_alone (r ∷ front) c q apart = answers_alone front (applied c r.command).after q apart.1 ∙ second c r.command q.command apart.0
+  answers_alone (r ∷ prefix) c q apart = answers_alone prefix (applied c r.command).after q apart.1 ∙ second c r.command q.command apart.0
 
   -- what is replayed is answered as it would be alone
   pub replayed_alone : (lo hi : ℕ) (log : List Entry) (rs : List Request) (j : ℕ) (q : Request) → IsDistinct clash rs → At rs j q → answer_after lo hi (take (length log + j) (log ++ ops rs)) q.command ≡ answer_after lo hi log q.command
   replayed_alone lo hi log rs j q d h =
       ap (λ (es : List Entry). answer_after lo hi es q.command) (take_ops log rs j (length log + j) refl)
-      ∙ ap (λ (c : Contents). (applied c q.command).answer) (log_stored lo hi log (take j rs)) ∙ answers_alone (take j rs) (meaning lo hi log).store q (front_apart rs j q d h)
+      ∙ ap (λ (c : Contents). (applied c q.command).answer) (log_stored lo hi log (take j rs)) ∙ answers_alone (take j rs) (meaning lo hi log).store q (prefix_apart rs j q d h)

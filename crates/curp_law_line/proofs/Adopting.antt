@@ -43,9 +43,9 @@ pub record AdoptGround (s : LineState) (o : Adopt) : Type 0 where
       → answer_after o.p.lo o.p.hi (take (length o.stays + j) (o.stays ++ ops (replayed_of o))) q.command ≡ answer_after o.p.lo o.p.hi o.stays q.command
 
 -- the order at a hash ends with what goes, and this stands before it
-pub record Fronts (h : ℕ) (order gone : List Asked) : Type 0 where
-  pub front : List Asked
-  pub is : on h order ≡ front ++ on h gone
+pub record Prefixes (h : ℕ) (order gone : List Asked) : Type 0 where
+  pub prefix : List Asked
+  pub is : on h order ≡ prefix ++ on h gone
 
 -- what an adoption begins with: a state with its facts, the move with its premises, and who owns what behind it
 pub record Adopting : Type 0 where

@@ -6,7 +6,7 @@ use Rattle.curp_law_line.specs.Hashes.{Part}
 use Rattle.curp_law_line.proofs.Given.{LogsOk, Pure, Second}
 use Rattle.curp_law_logs.specs.Gives.{GivesFit}
 use Rattle.curp_law_logs.specs.Migrations.{NumbersAscend, give_number, take_number}
-use Rattle.curp_law_logs.proofs.LogValues.{log_value_front}
+use Rattle.curp_law_logs.proofs.LogValues.{log_value_prefix}
 use Rattle.curp_law_logs.proofs.Logs.{packed_known}
 use Rattle.curp_law_logs.proofs.Migrations.{gives_once, takes_once}
 use Rattle.curp_law_logs.proofs.Values.{answer_local, second_alone, value_local}
@@ -31,5 +31,5 @@ logs_ok parts all = record {
   is_log = λ n p h. (all n p h).is_log;
   gives_once = λ n p h. gives_once p.log (all n p h).gives;
   takes_once = λ n p h. takes_once p.log (all n p h).takes;
-  values = λ n p h front back is. let a = all n p h in log_value_front p.lo p.hi p.log a.ordered a.is_log a.gives_fit front back is;
+  values = λ n p h prefix back is. let a = all n p h in log_value_prefix p.lo p.hi p.log a.ordered a.is_log a.gives_fit prefix back is;
 }

@@ -101,8 +101,8 @@ module _ (pure : Pure) (s : LineState) (ok : OrderOk s) (o : PushGive) (fits : P
       ]
     ]
 
-    known_now : (x : Asked) → In x (on h os) → (front back : List Entry) → front ++ back ≡ longer.log → NoGive h back → NotNew p.lo p.hi front x.0
-    known_now x m front back is none = elim (split_push front back p.log e is) [
+    known_now : (x : Asked) → In x (on h os) → (prefix back : List Entry) → prefix ++ back ≡ longer.log → NoGive h back → NotNew p.lo p.hi prefix x.0
+    known_now x m prefix back is none = elim (split_push prefix back p.log e is) [
       | inl last ↦ subst (λ (es : List Entry). NotNew p.lo p.hi es x.0) (sym last.1)
           (pure.packed_known fits.way.source.lo fits.way.source.hi fits.way.before x.0 (known_there x m) p.lo p.hi p.log o.m.number o.brought (ap (λ (k : Package). k.table) fits.way.its_package))
       | inr mid ↦

@@ -150,7 +150,7 @@ module _ (s : LineState) (below : Owned s.moving s.parts) (o : Adopt) (fits : Ad
       let e : Entry = Give m.number w.2 in
       let back : List Entry = drop (k + 1) T in
       let cut : T ≡ take k T ++ e ∷ back = sym (take-append-drop k T) ∙ ap (λ w. take k T ++ w) (drop_at T k e w.4) in
-      let none_front : NoGive h (take k T) = elim (cases_Bool (list_any (gives h) (take k T))) [
+      let none_prefix : NoGive h (take k T) = elim (cases_Bool (list_any (gives h) (take k T))) [
         | inr n ↦ n
         | inl y ↦
             let a = any_at (gives h) (take k T) y in
@@ -164,19 +164,19 @@ module _ (s : LineState) (below : Owned s.moving s.parts) (o : Adopt) (fits : Ad
             let b = at_drop (k + 1) T a.0 a.1 a.2 in
             absurd (let same = same_give h k b.0 m w.2 a.1 w.3 w.4 b.2 a.3 in omega (arith, b.1, same))
       ] in
-      let front_free : on h (asked_of (take k T)) ≡ [] = empty_list _ (λ x n.
+      let prefix_free : on h (asked_of (take k T)) ≡ [] = empty_list _ (λ x n.
       let f = from_filter (λ (z : Asked). touches z.1 h) (asked_of (take k T)) x n in
       let a = asked_of_in (take k T) x f.0 in
       let b = at_take k T a.0 _ a.3 in
       let t : touches a.1.command h ≡ true = ap (λ (z : Asked). touches z.1 h) a.4 ∙ f.1 in
-      let none : NoGive h (take a.0 T) = shorter k a.0 b.0 none_front in
+      let none : NoGive h (take a.0 T) = shorter k a.0 b.0 none_prefix in
       let own : owns (cut_part o) h ≡ true = owned_before p.lo p.hi h P (take a.0 T) (owned_there a.0 h a.1 a.2 b.1 t) none in
       let bad : true ≡ false = sym own ∙ fits.unowned h g in absurd cc) in
       let left : behind h p.log ≡ on h (asked_of back) =
       ap (behind h) (fits.is ∙ ap (λ w. P ++ w) cut ∙ sym (append_assoc P (take k T) (e ∷ back))) ∙ behind_from_append h [] (P ++ take k T) (e ∷ back)
       ∙ ap (λ (b : Bool). behind_from h (if b then [] else behind h (P ++ take k T)) back) w.5 ∙ behind_asked h [] back none_back in
       let right : on h (asked_of T) ≡ on h (asked_of back) =
-      ap (λ (es : List Entry). on h (asked_of es)) cut ∙ ap (on h) (asked_of_append (take k T) (e ∷ back)) ∙ on_append h (asked_of (take k T)) (asked_of back) ∙ ap (λ w. w ++ on h (asked_of back)) front_free in
+      ap (λ (es : List Entry). on h (asked_of es)) cut ∙ ap (on h) (asked_of_append (take k T) (e ∷ back)) ∙ on_append h (asked_of (take k T)) (asked_of back) ∙ ap (λ w. w ++ on h (asked_of back)) prefix_free in
       left ∙ sym right
     where
       shorter : (k j : ℕ) → j < k → NoGive h (take k T) → NoGive h (take j T)

@@ -78,7 +78,7 @@ opening_keeps parts empty one left = record {
       past = [];
       alike = refl;
       values = λ key k. map.get-empty _ key;
-      known = λ x m front back is none. absurd (cc (m.1));
+      known = λ x m prefix back is none. absurd (cc (m.1));
     });
     waiting = λ k i m h at_i f. absurd cc;
     standing = λ k i m h at_i. absurd cc;

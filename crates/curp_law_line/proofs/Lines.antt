@@ -16,44 +16,44 @@ use Rattle.curp_law_line.proofs.Known.{stays_known}
 use Rattle.curp_law_line.proofs.Pushes.{cases, longer, other, own}
 
 -- a list that is cut somewhere, with one item more
-pub split_push : {A : Type 0} (front back xs : List A) (e : A) → front ++ back ≡ xs ++ e ∷ []
-    → ((back ≡ []) × (front ≡ xs ++ e ∷ [])) ⊎ ((mid : List A) × (back ≡ mid ++ e ∷ []) × (front ++ mid ≡ xs))
+pub split_push : {A : Type 0} (prefix back xs : List A) (e : A) → prefix ++ back ≡ xs ++ e ∷ []
+    → ((back ≡ []) × (prefix ≡ xs ++ e ∷ [])) ⊎ ((mid : List A) × (back ≡ mid ++ e ∷ []) × (prefix ++ mid ≡ xs))
 split_push [] back xs e h = inr (xs, h, refl)
 split_push (f ∷ []) [] [] e h = inl (refl, h)
 split_push (f ∷ []) (b ∷ back) [] e h = absurd cc
-split_push (f ∷ g ∷ front) back [] e h = absurd cc
-split_push {A} (f ∷ front) back (x ∷ xs) e h =
+split_push (f ∷ g ∷ prefix) back [] e h = absurd cc
+split_push {A} (f ∷ prefix) back (x ∷ xs) e h =
     let head : f ≡ x = cc in
-    let tail : front ++ back ≡ xs ++ e ∷ [] = cc in
-    elim (split_push front back xs e tail) [
-      | inl last ↦ inl (last.0, ap (λ (z : A). z ∷ front) head ∙ ap (λ w. x ∷ w) last.1)
-      | inr mid ↦ inr (mid.0, mid.1, ap (λ (z : A). z ∷ (front ++ mid.0)) head ∙ ap (λ w. x ∷ w) mid.2)
+    let tail : prefix ++ back ≡ xs ++ e ∷ [] = cc in
+    elim (split_push prefix back xs e tail) [
+      | inl last ↦ inl (last.0, ap (λ (z : A). z ∷ prefix) head ∙ ap (λ w. x ∷ w) last.1)
+      | inr mid ↦ inr (mid.0, mid.1, ap (λ (z : A). z ∷ (prefix ++ mid.0)) head ∙ ap (λ w. x ∷ w) mid.2)
     ]
 
 -- a list that is cut somewhere, of two parts
-pub split_append : {A : Type 0} (front back xs ys : List A) → front ++ back ≡ xs ++ ys
-    → ((mid : List A) × (back ≡ mid ++ ys) × (front ++ mid ≡ xs)) ⊎ ((mid : List A) × (front ≡ xs ++ mid) × (mid ++ back ≡ ys))
+pub split_append : {A : Type 0} (prefix back xs ys : List A) → prefix ++ back ≡ xs ++ ys
+    → ((mid : List A) × (back ≡ mid ++ ys) × (prefix ++ mid ≡ xs)) ⊎ ((mid : List A) × (prefix ≡ xs ++ mid) × (mid ++ back ≡ ys))
 split_append [] back xs ys h = inl (xs, h, refl)
-split_append (f ∷ front) back [] ys h = inr (f ∷ front, refl, h)
-split_append {A} (f ∷ front) back (x ∷ xs) ys h =
+split_append (f ∷ prefix) back [] ys h = inr (f ∷ prefix, refl, h)
+split_append {A} (f ∷ prefix) back (x ∷ xs) ys h =
     let head : f ≡ x = cc in
-    let tail : front ++ back ≡ xs ++ ys = cc in
-    elim (split_append front back xs ys tail) [
-      | inl mid ↦ inl (mid.0, mid.1, ap (λ (z : A). z ∷ (front ++ mid.0)) head ∙ ap (λ w. x ∷ w) mid.2)
-      | inr mid ↦ inr (mid.0, ap (λ (z : A). z ∷ front) head ∙ ap (λ w. x ∷ w) mid.1, mid.2)
+    let tail : prefix ++ back ≡ xs ++ ys = cc in
+    elim (split_append prefix back xs ys tail) [
+      | inl mid ↦ inl (mid.0, mid.1, ap (λ (z : A). z ∷ (prefix ++ mid.0)) head ∙ ap (λ w. x ∷ w) mid.2)
+      | inr mid ↦ inr (mid.0, ap (λ (z : A). z ∷ prefix) head ∙ ap (λ w. x ∷ w) mid.1, mid.2)
     ]
 
 -- the id is known to each beginning of the log behind which no give covers the hash
 abbrev pub KnownFrom : ℕ → ℕ → ℕ → List Entry → RequestId → Type 0
-KnownFrom lo hi h log id = (front back : List Entry) → front ++ back ≡ log → NoGive h back → NotNew lo hi front id
+KnownFrom lo hi h log id = (prefix back : List Entry) → prefix ++ back ≡ log → NoGive h back → NotNew lo hi prefix id
 
 -- and so behind one more entry
 pub known_push : (lo hi h : ℕ) (log : List Entry) (e : Entry) (id : RequestId) → KnownFrom lo hi h log id → KnownFrom lo hi h (log ++ e ∷ []) id
-known_push lo hi h log e id known front back is none = elim (split_push front back log e is) [
+known_push lo hi h log e id known prefix back is none = elim (split_push prefix back log e is) [
   | inl last ↦ subst (λ (es : List Entry). NotNew lo hi es id) (sym last.1) (stays_known lo hi log (e ∷ []) id (known log [] (append-nil log) refl))
   | inr mid ↦
       let all : list_any (gives h) (mid.0 ++ e ∷ []) ≡ false = subst (NoGive h) mid.1 none in
-      known front mid.0 mid.2 (or_parts (list_any (gives h) mid.0) _ (sym (list_any-append (gives h) mid.0 (e ∷ [])) ∙ all)).0
+      known prefix mid.0 mid.2 (or_parts (list_any (gives h) mid.0) _ (sym (list_any-append (gives h) mid.0 (e ∷ [])) ∙ all)).0
 ]
 
 -- ---- what goes on elsewhere

@@ -21,7 +21,7 @@ use Rattle.curp_law_line.proofs.Given.{Pure, TakesOnce}
 use Rattle.curp_law_line.proofs.Hashes.{update_place}
 use Rattle.curp_law_line.proofs.Lists.{in_any, in_head, in_tail}
 use Rattle.curp_base.proofs.Numbered.{any_at, numbered_same}
-use Rattle.curp_law_line.proofs.Orders.{same_fronts}
+use Rattle.curp_law_line.proofs.Orders.{same_prefixes}
 
 -- marks that a filter keeps on a hash leave what the order has there
 pub filter_on : (h : ℕ) (q : Mark → Bool) (marks : List Mark) → ((u : Mark) → In u marks → is_update_mark u.place ≡ true → touches u.command h ≡ true → q u ≡ true) → on h (updates (filter q marks)) ≡ on h (updates marks)
@@ -120,4 +120,4 @@ module _ (s : LineState) (looks : LooksOk s.parts s.told s.marks) (o : Adopt) (f
   pub look_value : Pure → (f b : List Mark) (m : Mark) (number long : ℕ) → s.marks ≡ f ++ m ∷ b → m.place ≡ Looked number long → stays o.part (length o.stays) m ≡ true
       → (applied (store_after nothing (updates (filter (stays o.part (length o.stays)) f))) m.command).answer ≡ (applied (store_after nothing (updates f)) m.command).answer
   look_value pure f b m number long is at st =
-      same_fronts pure (updates (filter (stays o.part (length o.stays)) f)) (updates f) (asked m) (λ h t. kept_before f b m number long h is at st t)
+      same_prefixes pure (updates (filter (stays o.part (length o.stays)) f)) (updates f) (asked m) (λ h t. kept_before f b m number long h is at st t)

@@ -80,14 +80,14 @@ cut_once (z ∷ f) (y ∷ g) b c x e d =
 
 -- a list, cut at a request
 pub record Split (xs : List Asked) (x : Asked) : Type 0 where
-  pub front : List Asked
+  pub prefix : List Asked
   pub back : List Asked
-  pub is : xs ≡ front ++ x ∷ back
+  pub is : xs ≡ prefix ++ x ∷ back
 
-pub split_at : (xs : List Asked) (k : ℕ) (x : Asked) → At xs k x → (s : Split xs x) × (length s.front ≡ k)
+pub split_at : (xs : List Asked) (k : ℕ) (x : Asked) → At xs k x → (s : Split xs x) × (length s.prefix ≡ k)
 split_at [] k x h = absurd cc
-split_at (y ∷ xs) zero x h = let same : y ≡ x = cc in (record { front = []; back = xs; is = ap (λ (z : Asked). z ∷ xs) same }, refl)
-split_at (y ∷ xs) (suc k) x h = let s = split_at xs k x h in (record { front = y ∷ s.0.front; back = s.0.back; is = ap (λ w. y ∷ w) s.0.is }, ap suc s.1)
+split_at (y ∷ xs) zero x h = let same : y ≡ x = cc in (record { prefix = []; back = xs; is = ap (λ (z : Asked). z ∷ xs) same }, refl)
+split_at (y ∷ xs) (suc k) x h = let s = split_at xs k x h in (record { prefix = y ∷ s.0.prefix; back = s.0.back; is = ap (λ w. y ∷ w) s.0.is }, ap suc s.1)
 
 pub split_in : (xs : List Asked) (x : Asked) → In x xs → Split xs x
 split_in xs x m = (split_at xs m.0 x m.1).0
@@ -101,43 +101,43 @@ answer_there f b x =
     (at_append_right (answers_from nothing f) _ 0 (length f) _ (let e : length (answers_from nothing f) ≡ length f = length-answers nothing f in omega (arith, e)) refl)
 
 -- the same of a cut
-pub answered_there : (os : List Asked) (x : Asked) (s : Split os x) → AnsweredInOrder os x (applied (store_after nothing s.front) x.1).answer
-answered_there os x s = subst (λ (l : List Asked). AnsweredInOrder l x (applied (store_after nothing s.front) x.1).answer) (sym s.is) (record {
-  place = length s.front;
-  stands = at_append_right s.front (x ∷ s.back) 0 (length s.front) x (omega arith) refl;
-  answer = answer_there s.front s.back x;
+pub answered_there : (os : List Asked) (x : Asked) (s : Split os x) → AnsweredInOrder os x (applied (store_after nothing s.prefix) x.1).answer
+answered_there os x s = subst (λ (l : List Asked). AnsweredInOrder l x (applied (store_after nothing s.prefix) x.1).answer) (sym s.is) (record {
+  place = length s.prefix;
+  stands = at_append_right s.prefix (x ∷ s.back) 0 (length s.prefix) x (omega arith) refl;
+  answer = answer_there s.prefix s.back x;
 })
 
 -- and back: an answer is that of a cut
-pub answered_is : (os : List Asked) (x : Asked) (a : Answer) → (w : AnsweredInOrder os x a) → (s : Split os x) × (a ≡ (applied (store_after nothing s.front) x.1).answer)
+pub answered_is : (os : List Asked) (x : Asked) (a : Answer) → (w : AnsweredInOrder os x a) → (s : Split os x) × (a ≡ (applied (store_after nothing s.prefix) x.1).answer)
 answered_is os x a w =
     let s = split_at os w.place x w.stands in
-    let there : At (answers os) w.place (applied (store_after nothing s.0.front) x.1).answer =
-    subst (λ (k : ℕ). At (answers os) k (applied (store_after nothing s.0.front) x.1).answer) s.1
-    (subst (λ (l : List Asked). At (answers l) (length s.0.front) (applied (store_after nothing s.0.front) x.1).answer) (sym s.0.is) (answer_there s.0.front s.0.back x)) in
+    let there : At (answers os) w.place (applied (store_after nothing s.0.prefix) x.1).answer =
+    subst (λ (k : ℕ). At (answers os) k (applied (store_after nothing s.0.prefix) x.1).answer) s.1
+    (subst (λ (l : List Asked). At (answers l) (length s.0.prefix) (applied (store_after nothing s.0.prefix) x.1).answer) (sym s.0.is) (answer_there s.0.prefix s.0.back x)) in
     (s.0, at_same (answers os) w.place a _ w.answer there)
 
 -- a cut at a hash
-pub on_split : (h : ℕ) (xs : List Asked) (x : Asked) → touches x.1 h ≡ true → (s : Split xs x) → on h xs ≡ on h s.front ++ x ∷ on h s.back
-on_split h xs x t s = ap (on h) s.is ∙ on_append h s.front (x ∷ s.back) ∙ ap (λ (b : Bool). on h s.front ++ cond b (x ∷ on h s.back) (on h s.back)) t
+pub on_split : (h : ℕ) (xs : List Asked) (x : Asked) → touches x.1 h ≡ true → (s : Split xs x) → on h xs ≡ on h s.prefix ++ x ∷ on h s.back
+on_split h xs x t s = ap (on h) s.is ∙ on_append h s.prefix (x ∷ s.back) ∙ ap (λ (b : Bool). on h s.prefix ++ cond b (x ∷ on h s.back) (on h s.back)) t
 
 -- ---- what a request has at each of its hashes before it decides its answer
 
 -- what stands before a request at each of its hashes decides its answer
-pub same_fronts : Pure → (f g : List Asked) (x : Asked) → ((h : ℕ) → touches x.1 h ≡ true → on h f ≡ on h g) → (applied (store_after nothing f) x.1).answer ≡ (applied (store_after nothing g) x.1).answer
-same_fronts pure f g x e = pure.answer_local (store_after nothing f) (store_after nothing g) x.1 (λ key m.
+pub same_prefixes : Pure → (f g : List Asked) (x : Asked) → ((h : ℕ) → touches x.1 h ≡ true → on h f ≡ on h g) → (applied (store_after nothing f) x.1).answer ≡ (applied (store_after nothing g) x.1).answer
+same_prefixes pure f g x e = pure.answer_local (store_after nothing f) (store_after nothing g) x.1 (λ key m.
     pure.value_local key f ∙ ap (value key) (e (hash_of key) (key_touches x.1 key m)) ∙ sym (pure.value_local key g))
 
--- the front of a request at a hash, where the hash has it in front of the cut
-pub front_of : (h : ℕ) (os X R : List Asked) (x : Asked) → touches x.1 h ≡ true → Distinct (on h os) → on h os ≡ X ++ R → (s : Split os x) → (c : Split X x) → on h s.front ≡ c.front
-front_of h os X R x t d e s c =
-    let a : on h s.front ++ x ∷ on h s.back ≡ c.front ++ x ∷ (c.back ++ R) =
-    sym (on_split h os x t s) ∙ e ∙ ap (λ w. w ++ R) c.is ∙ append_assoc c.front (x ∷ c.back) R in
-    cut_once (on h s.front) c.front (on h s.back) (c.back ++ R) x a (subst Distinct (on_split h os x t s) d)
+-- the prefix of a request at a hash, where the hash has it in front of the cut
+pub prefix_of : (h : ℕ) (os X R : List Asked) (x : Asked) → touches x.1 h ≡ true → Distinct (on h os) → on h os ≡ X ++ R → (s : Split os x) → (c : Split X x) → on h s.prefix ≡ c.prefix
+prefix_of h os X R x t d e s c =
+    let a : on h s.prefix ++ x ∷ on h s.back ≡ c.prefix ++ x ∷ (c.back ++ R) =
+    sym (on_split h os x t s) ∙ e ∙ ap (λ w. w ++ R) c.is ∙ append_assoc c.prefix (x ∷ c.back) R in
+    cut_once (on h s.prefix) c.prefix (on h s.back) (c.back ++ R) x a (subst Distinct (on_split h os x t s) d)
 
 -- or right behind it
-pub front_at : (h : ℕ) (os X R : List Asked) (x : Asked) → touches x.1 h ≡ true → Distinct (on h os) → on h os ≡ X ++ x ∷ R → (s : Split os x) → on h s.front ≡ X
-front_at h os X R x t d e s = cut_once (on h s.front) X (on h s.back) R x (sym (on_split h os x t s) ∙ e) (subst Distinct (on_split h os x t s) d)
+pub place_in_prefix : (h : ℕ) (os X R : List Asked) (x : Asked) → touches x.1 h ≡ true → Distinct (on h os) → on h os ≡ X ++ x ∷ R → (s : Split os x) → on h s.prefix ≡ X
+place_in_prefix h os X R x t d e s = cut_once (on h s.prefix) X (on h s.back) R x (sym (on_split h os x t s) ∙ e) (subst Distinct (on_split h os x t s) d)
 
 -- ---- at one hash, what is done and what is replayed again are what is replayed
 

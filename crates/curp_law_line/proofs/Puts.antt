@@ -66,39 +66,39 @@ module _ (q : Mark) where
   put_filter p out (suc c) (y ∷ xs) = ap (λ (l : List Mark). cond (p y) (y ∷ l) l) (put_filter p out c xs)
 
   -- what stands before an item: as before, or with the one that came
-  pub put_front : (c k j : ℕ) → Was c k j → (xs : List Mark) → (p : Mark → Bool) → p q ≡ false → filter p (take k (put_before c q xs)) ≡ filter p (take j xs)
-  put_front zero zero j w xs p out = absurd (no w)
+  pub put_prefix : (c k j : ℕ) → Was c k j → (xs : List Mark) → (p : Mark → Bool) → p q ≡ false → filter p (take k (put_before c q xs)) ≡ filter p (take j xs)
+  put_prefix zero zero j w xs p out = absurd (no w)
     where
       no : Was 0 0 j → ⊥
       no (inl v) = omega (arith, v.0)
       no (inr v) = omega (arith, v.0)
-  put_front zero (suc k) j w xs p out = ap (λ (b : Bool). cond b (q ∷ filter p (take k xs)) (filter p (take k xs))) out ∙ ap (λ (n : ℕ). filter p (take n xs)) (same w)
+  put_prefix zero (suc k) j w xs p out = ap (λ (b : Bool). cond b (q ∷ filter p (take k xs)) (filter p (take k xs))) out ∙ ap (λ (n : ℕ). filter p (take n xs)) (same w)
     where
       same : Was 0 (suc k) j → k ≡ j
       same (inl v) = absurd (omega (arith, v.0))
       same (inr v) = omega (arith, v.1)
-  put_front (suc c) zero zero w xs p out = refl
-  put_front (suc c) zero (suc j) w xs p out = absurd (no w)
+  put_prefix (suc c) zero zero w xs p out = refl
+  put_prefix (suc c) zero (suc j) w xs p out = absurd (no w)
     where
       no : Was (suc c) 0 (suc j) → ⊥
       no (inl v) = omega (arith, v.1)
       no (inr v) = omega (arith, v.0)
-  put_front (suc c) (suc k) zero w [] p out = none w k
+  put_prefix (suc c) (suc k) zero w [] p out = none w k
     where
       none : Was (suc c) (suc k) 0 → (k : ℕ) → filter p (take (suc k) (q ∷ [])) ≡ []
       none w zero = ap (λ (b : Bool). cond b (q ∷ []) []) out
       none w (suc k) = ap (λ (b : Bool). cond b (q ∷ []) []) out
-  put_front (suc c) (suc k) (suc j) w [] p out = none k
+  put_prefix (suc c) (suc k) (suc j) w [] p out = none k
     where
       none : (k : ℕ) → filter p (take (suc k) (q ∷ [])) ≡ []
       none zero = ap (λ (b : Bool). cond b (q ∷ []) []) out
       none (suc k) = ap (λ (b : Bool). cond b (q ∷ []) []) out
-  put_front (suc c) (suc k) zero w (y ∷ xs) p out = absurd (no w)
+  put_prefix (suc c) (suc k) zero w (y ∷ xs) p out = absurd (no w)
     where
       no : Was (suc c) (suc k) 0 → ⊥
       no (inl v) = omega (arith, v.1)
       no (inr v) = omega (arith, v.0, v.1)
-  put_front (suc c) (suc k) (suc j) w (y ∷ xs) p out = ap (λ (l : List Mark). cond (p y) (y ∷ l) l) (put_front c k j (earlier w) xs p out)
+  put_prefix (suc c) (suc k) (suc j) w (y ∷ xs) p out = ap (λ (l : List Mark). cond (p y) (y ∷ l) l) (put_prefix c k j (earlier w) xs p out)
     where
       earlier : Was (suc c) (suc k) (suc j) → Was c k j
       earlier (inl v) = inl (omega (arith, v.0), omega (arith, v.1))

@@ -110,13 +110,13 @@ module _ (pure : Pure) (second : Second) (s : LineState) (o : Look) (fits : Look
 
 -- ---- at a superseded master
 
--- a log that owns the hash, and whose end doesn't touch it, has there what its front has
-pub firm_whole : (l : Left) (h : ℕ) → owns (record l.front { log = l.front.log ++ l.back }) h ≡ true → list_any (λ (e : Entry). entry_touches e h) l.back ≡ false → IsFirm l h
-firm_whole l h own quiet = record { owned = owned_before l.front.lo l.front.hi h l.front.log l.back own (quiet_gives h l.back quiet); quiet = quiet }
+-- a log that owns the hash, and whose end doesn't touch it, has there what its prefix has
+pub firm_whole : (l : Left) (h : ℕ) → owns (record l.prefix { log = l.prefix.log ++ l.back }) h ≡ true → list_any (λ (e : Entry). entry_touches e h) l.back ≡ false → IsFirm l h
+firm_whole l h own quiet = record { owned = owned_before l.prefix.lo l.prefix.hi h l.prefix.log l.back own (quiet_gives h l.back quiet); quiet = quiet }
 
--- and gives there what its front gives
-pub firm_answer : (l : Left) (c : Command) → GivesWithin l.back → ((h : ℕ) → touches c h ≡ true → IsFirm l h) → answer_after l.front.lo l.front.hi (l.front.log ++ l.back) c ≡ answer_after l.front.lo l.front.hi l.front.log c
-firm_answer l c within firm = answer_untouched l.front.lo l.front.hi l.front.log l.back c within (λ h t k e at. untouched h (firm h t).quiet k e at)
+-- and gives there what its prefix gives
+pub firm_answer : (l : Left) (c : Command) → GivesWithin l.back → ((h : ℕ) → touches c h ≡ true → IsFirm l h) → answer_after l.prefix.lo l.prefix.hi (l.prefix.log ++ l.back) c ≡ answer_after l.prefix.lo l.prefix.hi l.prefix.log c
+firm_answer l c within firm = answer_untouched l.prefix.lo l.prefix.hi l.prefix.log l.back c within (λ h t k e at. untouched h (firm h t).quiet k e at)
   where
     untouched : (h : ℕ) → list_any (λ (e : Entry). entry_touches e h) l.back ≡ false → (k : ℕ) (e : Entry) → At l.back k e → entry_touches e h ≡ false
     untouched h quiet k e at = go (entry_touches e h) refl
@@ -132,13 +132,13 @@ module _ (pure : Pure) (s : LineState) (o : Late) (fits : LateFits s o) (ok : Li
   abbrev old_log : Left
   old_log = s.left o.part o.number
 
-  value_there : (key : List ℕ) → touches o.command (hash_of key) ≡ true → store.get (store_after nothing (updates (take o.place s.marks))) key ≡ store.get (state_of old_log.front).store key
+  value_there : (key : List ℕ) → touches o.command (hash_of key) ≡ true → store.get (store_after nothing (updates (take o.place s.marks))) key ≡ store.get (state_of old_log.prefix).store key
   value_there key t =
       let f : IsFirm (s.left fits.mark.part o.number) (hash_of key) = subst (λ (x : ℕ). IsFirm (s.left x o.number) (hash_of key)) (sym fits.its_part) (fits.firm (hash_of key) t) in
-      ok.quick.values o.place o.number fits.long fits.mark fits.stands fits.is_cut key f ∙ ap (λ (x : ℕ). store.get (state_of (s.left x o.number).front).store key) fits.its_part
+      ok.quick.values o.place o.number fits.long fits.mark fits.stands fits.is_cut key f ∙ ap (λ (x : ℕ). store.get (state_of (s.left x o.number).prefix).store key) fits.its_part
 
-  -- a late quick mark gives what the recovered front gives
-  pub late_reads : QuickGives (late_quickly s o).marks (record { master = o.node; epoch = o.epoch; number = o.capture }) o.part o.id (answer_after old_log.front.lo old_log.front.hi old_log.front.log o.command)
+  -- a late quick mark gives what the recovered prefix gives
+  pub late_reads : QuickGives (late_quickly s o).marks (record { master = o.node; epoch = o.epoch; number = o.capture }) o.part o.id (answer_after old_log.prefix.lo old_log.prefix.hi old_log.prefix.log o.command)
   late_reads = record {
     place = o.place;
     mark = late_mark;
@@ -150,18 +150,18 @@ module _ (pure : Pure) (s : LineState) (o : Late) (fits : LateFits s o) (ok : Li
     is_quick = refl;
     gives = ap (λ (l : List Mark). (applied (store_after nothing (shown l)) o.command).answer) (put_before_it late_mark o.place s.marks (late_low s ok.order o fits))
         ∙ by_updates s.marks ok.order.kinds o.place o.command
-        ∙ pure.answer_local (store_after nothing (updates (take o.place s.marks))) (state_of old_log.front).store o.command (λ key m. value_there key (key_touches o.command key m));
+        ∙ pure.answer_local (store_after nothing (updates (take o.place s.marks))) (state_of old_log.prefix).store o.command (λ key m. value_there key (key_touches o.command key m));
   }
 
   -- and so what the superseded log gives
   pub late_reads_whole : GivesWithin old_log.back
-      → QuickGives (late_quickly s o).marks (record { master = o.node; epoch = o.epoch; number = o.capture }) o.part o.id (answer_after old_log.front.lo old_log.front.hi (old_log.front.log ++ old_log.back) o.command)
+      → QuickGives (late_quickly s o).marks (record { master = o.node; epoch = o.epoch; number = o.capture }) o.part o.id (answer_after old_log.prefix.lo old_log.prefix.hi (old_log.prefix.log ++ old_log.back) o.command)
   late_reads_whole within =
       subst (QuickGives (late_quickly s o).marks (record { master = o.node; epoch = o.epoch; number = o.capture }) o.part o.id) (sym (firm_answer old_log o.command within fits.firm)) late_reads
 
   -- where its request was invoked before what is flagged behind the adoption completed, it is early
   pub late_early : CutEarly s o.part o.number o.id o.command
-      → QuickEarly (late_quickly s o) (record { master = o.node; epoch = o.epoch; number = o.capture }) o.part o.id (answer_after old_log.front.lo old_log.front.hi old_log.front.log o.command)
+      → QuickEarly (late_quickly s o) (record { master = o.node; epoch = o.epoch; number = o.capture }) o.part o.id (answer_after old_log.prefix.lo old_log.prefix.hi old_log.prefix.log o.command)
   unfolding late_reads
   late_early c = record {
     its = late_reads;
@@ -186,11 +186,11 @@ module _ (pure : Pure) (s : LineState) (o : Late) (fits : LateFits s o) (ok : Li
       ]
 
   pub late_early_whole : GivesWithin old_log.back → CutEarly s o.part o.number o.id o.command
-      → QuickEarly (late_quickly s o) (record { master = o.node; epoch = o.epoch; number = o.capture }) o.part o.id (answer_after old_log.front.lo old_log.front.hi (old_log.front.log ++ old_log.back) o.command)
+      → QuickEarly (late_quickly s o) (record { master = o.node; epoch = o.epoch; number = o.capture }) o.part o.id (answer_after old_log.prefix.lo old_log.prefix.hi (old_log.prefix.log ++ old_log.back) o.command)
   late_early_whole within c =
       subst (QuickEarly (late_quickly s o) (record { master = o.node; epoch = o.epoch; number = o.capture }) o.part o.id) (sym (firm_answer old_log o.command within fits.firm)) (late_early c)
 
-  -- what is uncompleted before it stands in the recovered front
+  -- what is uncompleted before it stands in the recovered prefix
   pub late_is_low : QuickLow (late_quickly s o).marks (record { master = o.node; epoch = o.epoch; number = o.capture }) o.part fits.long o.id
   late_is_low = record {
     place = o.place;

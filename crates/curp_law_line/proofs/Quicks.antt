@@ -42,9 +42,9 @@ module _ (s : LineState) (o : Adopt) (fits : AdoptFits s o) (takes_once : TakesO
       subst (λ (y : Part). ToldTake s.told y.log i h) is t.2
 
   -- an adoption drops nothing there
-  pub front_kept : (place part h : ℕ) → AwayOk s.parts s.told s.marks place part h → (part ≡ o.part → LowBefore s.marks place o.part h (length o.stays))
+  pub prefix_kept : (place part h : ℕ) → AwayOk s.parts s.told s.marks place part h → (part ≡ o.part → LowBefore s.marks place o.part h (length o.stays))
       → on h (updates (filter (stays o.part (length o.stays)) (take place s.marks))) ≡ on h (updates (take place s.marks))
-  front_kept place part h away low = filter_on h (stays o.part (length o.stays)) (take place s.marks) kept
+  prefix_kept place part h away low = filter_on h (stays o.part (length o.stays)) (take place s.marks) kept
     where
       kept : (u : Mark) → In u (take place s.marks) → is_update_mark u.place ≡ true → touches u.command h ≡ true → stays o.part (length o.stays) u ≡ true
       kept u n up tu = elim (cases_Bool u.completed) [

@@ -26,7 +26,7 @@ use Rattle.curp_law_line.proofs.Hashes.{update_place}
 use Rattle.curp_law_line.proofs.Lists.{filter_within, in_any, in_filter, none_narrower}
 use Rattle.curp_law_line.proofs.Looks.{filter_on, stays_away, stays_low}
 use Rattle.curp_law_line.proofs.OwnedValues.{at_own, owned_value}
-use Rattle.curp_law_line.proofs.Quicks.{away_kept, front_kept, kept_of, part_after, parts_after}
+use Rattle.curp_law_line.proofs.Quicks.{away_kept, prefix_kept, kept_of, part_after, parts_after}
 use Rattle.curp_law_line.proofs.QuicksKept.{quick_cut, quick_more}
 use Rattle.curp_law_line.proofs.Spans.{owned_after, takes}
 use Rattle.curp_law_line.proofs.ToldTakes.{told_behind}
@@ -124,7 +124,7 @@ module _ (pure : Pure) (s : LineState) (order : OrderOk s) (below : Owned s.movi
     values = λ j number long m hm is key firm.
         let w = filter_back st s.marks j m hm in
         ap (λ (l : List Mark). value key (updates l)) w.3 ∙ pure.value_local key (updates (filter st (take w.0 s.marks)))
-        ∙ ap (value key) (front_kept s o fits (logs.takes_once o.part o.p fits.here) w.0 m.part (hash_of key) (q.cuts w.0 number long (hash_of key) m w.1 is firm)
+        ∙ ap (value key) (prefix_kept s o fits (logs.takes_once o.part o.p fits.here) w.0 m.part (hash_of key) (q.cuts w.0 number long (hash_of key) m w.1 is firm)
         (λ own k i u hu lt at waits part tu.
         let a = q.low w.0 k i number long m u w.1 is hu lt at waits (part ∙ sym own) in
         let b = fits.cuts w.0 number long (hash_of key) m w.1 is own firm in
@@ -135,7 +135,7 @@ module _ (pure : Pure) (s : LineState) (order : OrderOk s) (below : Owned s.movi
   -- ---- the mark of the adoption
 
   abbrev gone : Left
-  gone = record { front = cut_part o; back = o.goes }
+  gone = record { prefix = cut_part o; back = o.goes }
 
   module _ (h : ℕ) (firm : IsFirm gone h) where
     none_taken : list_any (takes h) o.goes ≡ false
@@ -188,14 +188,14 @@ module _ (pure : Pure) (s : LineState) (order : OrderOk s) (below : Owned s.movi
       let own : owns o.p h ≡ true = own_whole h firm in
       let line = at_own s order below o.part o.p fits.here h own in
       let whole : LogValue o.p = logs.values o.part o.p fits.here o.p.log [] (append-nil o.p.log) in
-      let front : LogValue (cut_part o) = logs.values o.part o.p fits.here o.stays o.goes (sym fits.is) in
+      let prefix : LogValue (cut_part o) = logs.values o.part o.p fits.here o.stays o.goes (sym fits.is) in
       let came_same : (other : List ℕ) → came h other o.p.log ≡ came h other o.stays = λ other. ap (came h other) fits.is ∙ came_from_append h other _ o.stays o.goes ∙ came_kept h other _ o.goes (quiet_gives h o.goes firm.quiet) in
       let behind_same : behind h o.p.log ≡ behind h o.stays = ap (behind h) fits.is ∙ behind_from_append h [] o.stays o.goes ∙ quiet_behind h (behind h o.stays) o.goes firm.quiet in
       pure.value_local key (updates kept) ∙ ap (value key) (same_on h firm) ∙ sym (pure.value_local key (updates s.marks))
       ∙ owned_value s order below o.part o.p fits.here pure whole key own
       ∙ whole h own key refl line.past line.values
       ∙ ap (λ (l : List Asked). value key (line.past ++ l)) behind_same
-      ∙ sym (front h firm.owned key refl line.past (λ other e. line.values other e ∙ came_same other))
+      ∙ sym (prefix h firm.owned key refl line.past (λ other e. line.values other e ∙ came_same other))
 
   abbrev own_cut : Mark
   own_cut = the_cut o.node o.part o.epoch (length o.stays) s.marks
@@ -224,7 +224,7 @@ module _ (pure : Pure) (s : LineState) (order : OrderOk s) (below : Owned s.movi
       quick_cut parts s.told s.left (left_after s o) kept own_cut own_number (length o.stays) refl refl (let e = same_adoptions o.part in omega (arith, e)) left_old
       (λ h firm. new_away h (subst (λ (x : Left). IsFirm x h) left_new firm))
       (λ k i u hu at waits here. let f = filter_at st s.marks k u hu in kept_low o.part (length o.stays) i u f.2 here waits at)
-      (λ key firm. new_value key (subst (λ (x : Left). IsFirm x (hash_of key)) left_new firm) ∙ ap (λ (x : Left). store.get (state_of x.front).store key) (sym left_new))
+      (λ key firm. new_value key (subst (λ (x : Left). IsFirm x (hash_of key)) left_new firm) ∙ ap (λ (x : Left). store.get (state_of x.prefix).store key) (sym left_new))
       kept_facts
 
   -- ---- those of what is replayed

@@ -22,7 +22,7 @@ use Rattle.curp_law_line.specs.Moves.{longer_left, pushed, put_before}
 use Rattle.curp_law_line.proofs.Completions.{flagged_order, flagging_at}
 use Rattle.curp_law_line.proofs.LooksKept.{take_grows}
 use Rattle.curp_law_line.proofs.Pushes as pushes
-use Rattle.curp_law_line.proofs.Puts.{Was, put_cases, put_filter, put_front, put_stands, was_low, was_order, was_same}
+use Rattle.curp_law_line.proofs.Puts.{Was, put_cases, put_filter, put_prefix, put_stands, was_low, was_order, was_same}
 use Rattle.curp_law_line.proofs.Values.{take_map}
 use Rattle.curp_law_line.proofs.Lists.{empty_list, from_filter}
 
@@ -167,7 +167,7 @@ module _ (parts : List Part) (told : List ℕ) (left later : ℕ → ℕ → Lef
     (older : (part number : ℕ) → number ≤ adoptions part marks → later part number ≡ left part number)
     (away : (h : ℕ) → IsFirm (later mark.part own) h → AwayOk parts told marks (length marks) mark.part h)
     (below : (k i : ℕ) (u : Mark) → At marks k u → u.place ≡ Executed i → u.completed ≡ false → u.part ≡ mark.part → i < long)
-    (its_value : (key : List ℕ) → IsFirm (later mark.part own) (hash_of key) → value key (updates marks) ≡ store.get (state_of (later mark.part own).front).store key) where
+    (its_value : (key : List ℕ) → IsFirm (later mark.part own) (hash_of key) → value key (updates marks) ≡ store.get (state_of (later mark.part own).prefix).store key) where
   number_of : {n m l k : ℕ} → Cut n l ≡ Cut m k → n ≡ m
   number_of e = cc
 
@@ -250,14 +250,14 @@ module _ (parts : List Part) (told : List ℕ) (left later : ℕ → ℕ → Lef
           let l = at_within marks j m old in
           let e = older m.part number (q.numbers j number which m old is) in
           ap (λ (x : List Mark). value key (updates x)) (take-append-le j marks (mark ∷ []) (omega (arith, l))) ∙ q.values j number which m old is key (subst (λ (x : Left). IsFirm x (hash_of key)) e firm)
-          ∙ ap (λ (x : Left). store.get (state_of x.front).store key) (sym e)
+          ∙ ap (λ (x : Left). store.get (state_of x.prefix).store key) (sym e)
       | inr last ↦
           let same : mark.part ≡ m.part = ap (λ (y : Mark). y.part) last.1 in
           let n : own ≡ number = number_of (sym is_own ∙ ap (λ (y : Mark). y.place) last.1 ∙ is) in
           let e : later mark.part own ≡ later m.part number = λ i. later (same i) (n i) in
           let f : IsFirm (later mark.part own) (hash_of key) = subst (λ (x : Left). IsFirm x (hash_of key)) (sym e) firm in
           ap (λ (x : List Mark). value key (updates x)) (ap (λ (x : ℕ). take x all) last.0 ∙ take-append-le (length marks) marks (mark ∷ []) (omega arith) ∙ take_all (length marks) marks (omega arith))
-          ∙ its_value key f ∙ ap (λ (x : Left). store.get (state_of x.front).store key) e
+          ∙ its_value key f ∙ ap (λ (x : Left). store.get (state_of x.prefix).store key) e
     ];
   }
     where
@@ -328,7 +328,7 @@ quick_flag parts told left c marks no_cut q = record {
       let w = flagging_at c marks j m hm in
       let same : updates (take j (flagged c marks)) ≡ updates (take j marks) = ap updates (take_map (λ (m : Mark). cond (is_flagged c c.by m) (record m { completed = true }) m) j marks) ∙ flagged_order c (take j marks) in
       ap (value key) same ∙ q.values j number long w.was w.stood (sym w.place ∙ is) key (subst (λ (x : ℕ). IsFirm (left x number) (hash_of key)) w.part firm)
-      ∙ ap (λ (x : ℕ). store.get (state_of (left x number).front).store key) (sym w.part);
+      ∙ ap (λ (x : ℕ). store.get (state_of (left x number).prefix).store key) (sym w.part);
 }
   where
     not_hit : (k : ℕ) (m : Mark) → At marks k m → is_cut m.place ≡ true → is_flagged c c.by m ≡ false
@@ -336,17 +336,17 @@ quick_flag parts told left c marks no_cut q = record {
 
 -- ---- a superseded log grows
 
-longer_is : (left : ℕ → ℕ → Left) (part number : ℕ) (more : List Entry) (p n h : ℕ) → IsFirm (longer_left left part number more p n) h → IsFirm (left p n) h × ((longer_left left part number more p n).front ≡ (left p n).front)
+longer_is : (left : ℕ → ℕ → Left) (part number : ℕ) (more : List Entry) (p n h : ℕ) → IsFirm (longer_left left part number more p n) h → IsFirm (left p n) h × ((longer_left left part number more p n).prefix ≡ (left p n).prefix)
 longer_is left part number more p n h firm = go ((p == part) && (n == number)) refl firm
   where
     go : (b : Bool) → ((p == part) && (n == number)) ≡ b → IsFirm (cond b (record (left part number) { back = (left part number).back ++ more }) (left p n)) h
-        → IsFirm (left p n) h × ((cond b (record (left part number) { back = (left part number).back ++ more }) (left p n)).front ≡ (left p n).front)
+        → IsFirm (left p n) h × ((cond b (record (left part number) { back = (left part number).back ++ more }) (left p n)).prefix ≡ (left p n).prefix)
     go true e f =
         let c = and_parts (p == part) (n == number) e in
         let same : left part number ≡ left p n = λ i. left (sym (eqb-true p part c.0) i) (sym (eqb-true n number c.1) i) in
         let less : list_any (λ (x : Entry). entry_touches x h) (left part number).back ≡ false =
         (or_parts _ _ (sym (list_any-append (λ (x : Entry). entry_touches x h) (left part number).back more) ∙ f.quiet)).0 in
-        (subst (λ (x : Left). IsFirm x h) same (record { owned = f.owned; quiet = less }), ap (λ (x : Left). x.front) same)
+        (subst (λ (x : Left). IsFirm x h) same (record { owned = f.owned; quiet = less }), ap (λ (x : Left). x.prefix) same)
     go false e f = (f, refl)
 
 pub quick_stray : (parts : List Part) (told : List ℕ) (left : ℕ → ℕ → Left) (marks : List Mark) (part number : ℕ) (more : List Entry) → QuickKept parts told left marks → QuickKept parts told (longer_left left part number more) marks
@@ -423,5 +423,5 @@ module _ (parts : List Part) (told : List ℕ) (left : ℕ → ℕ → Left) (ma
     plain = λ k m h is. let p = cut_place m.place is in let w = cut_at k p.0 p.1 m h p.2 in q.plain w.0 m w.2 is;
     values = λ j n long m hm is key firm.
         let w = cut_at j n long m hm is in
-        ap (λ (l : List Mark). value key (map asked l)) (put_front mark c j w.0 w.1 marks (λ (m : Mark). is_update_mark m.place) no_update) ∙ q.values w.0 n long m w.2 is key firm;
+        ap (λ (l : List Mark). value key (map asked l)) (put_prefix mark c j w.0 w.1 marks (λ (m : Mark). is_update_mark m.place) no_update) ∙ q.values w.0 n long m w.2 is key firm;
   }

@@ -113,12 +113,12 @@ owned_on h (Give n p ∷ es) s k e none = owned_on h es (after_entry s k (Give n
 owned_on h (Expire client ∷ es) s k e none = owned_on h es (after_entry s k (Expire client)) (k + 1) e none
 
 -- what is owned behind entries that give nothing on a hash was owned before
-pub owned_before : (lo hi h : ℕ) (front back : List Entry) → is_owned (meaning lo hi (front ++ back)).owned h ≡ true → NoGive h back → is_owned (meaning lo hi front).owned h ≡ true
-owned_before lo hi h front back e none = owned_back h back (meaning lo hi front) (length front) (ap (λ (s : LogState). is_owned s.owned h) (sym (meaning_append lo hi front back)) ∙ e) none
+pub owned_before : (lo hi h : ℕ) (prefix back : List Entry) → is_owned (meaning lo hi (prefix ++ back)).owned h ≡ true → NoGive h back → is_owned (meaning lo hi prefix).owned h ≡ true
+owned_before lo hi h prefix back e none = owned_back h back (meaning lo hi prefix) (length prefix) (ap (λ (s : LogState). is_owned s.owned h) (sym (meaning_append lo hi prefix back)) ∙ e) none
 
 -- what is owned stays so behind entries that take nothing of it
-pub owned_after : (lo hi h : ℕ) (front back : List Entry) → is_owned (meaning lo hi front).owned h ≡ true → list_any (takes h) back ≡ false → is_owned (meaning lo hi (front ++ back)).owned h ≡ true
-owned_after lo hi h front back e none = ap (λ (s : LogState). is_owned s.owned h) (meaning_append lo hi front back) ∙ owned_on h back (meaning lo hi front) (length front) e none
+pub owned_after : (lo hi h : ℕ) (prefix back : List Entry) → is_owned (meaning lo hi prefix).owned h ≡ true → list_any (takes h) back ≡ false → is_owned (meaning lo hi (prefix ++ back)).owned h ≡ true
+owned_after lo hi h prefix back e none = ap (λ (s : LogState). is_owned s.owned h) (meaning_append lo hi prefix back) ∙ owned_on h back (meaning lo hi prefix) (length prefix) e none
 
 -- what a partition owns behind a give, off its range, it owned before
 pub owned_give : (p : Part) (number : ℕ) (k : Package) (h : ℕ) → owns (record p { log = p.log ++ Give number k ∷ [] }) h ≡ true → is_in k.lo k.hi h ≡ false → owns p h ≡ true

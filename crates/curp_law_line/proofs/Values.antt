@@ -27,9 +27,9 @@ use Rattle.curp_law_line.proofs.Looks.{look_value}
 use Rattle.curp_base.proofs.Numbered.{filter_at}
 use Rattle.curp_law_line.proofs.OwnedValues.{owned_answer}
 use Rattle.curp_law_line.proofs.Shown.{by_updates}
-use Rattle.curp_law_line.proofs.Quicks.{front_kept}
-use Rattle.curp_law_line.proofs.Orders.{same_fronts}
-use Rattle.curp_law_line.proofs.Puts.{Was, put_cases, put_front, put_stands}
+use Rattle.curp_law_line.proofs.Quicks.{prefix_kept}
+use Rattle.curp_law_line.proofs.Orders.{same_prefixes}
+use Rattle.curp_law_line.proofs.Puts.{Was, put_cases, put_prefix, put_stands}
 use Rattle.curp_law_logs.specs.Hashes.{asked, updates}
 
 -- what isn't an update's mark
@@ -158,8 +158,8 @@ module _ (pure : Pure) (s : LineState) (kinds : KindsOk s.marks) (looks : LooksO
       let low : k < length kept = at_within kept k m hk in
       value_more kept fresh k m.command (omega (arith, low)) ∙ by_updates kept kinds_kept k m.command
       ∙ ap (λ (l : List Mark). (applied (store_after nothing (updates l)) m.command).answer) before
-      ∙ same_fronts pure (updates (filter (stays o.part (length o.stays)) (take j s.marks))) (updates (take j s.marks)) (asked m)
-      (λ hash t. front_kept s o fits takes_once j m.part hash (quicks j number hash m h is t) (λ own i at u hu lt place waits part tu. fits.quicks j i at number hash m u h is own hu lt place waits part t tu))
+      ∙ same_prefixes pure (updates (filter (stays o.part (length o.stays)) (take j s.marks))) (updates (take j s.marks)) (asked m)
+      (λ hash t. prefix_kept s o fits takes_once j m.part hash (quicks j number hash m h is t) (λ own i at u hu lt place waits part tu. fits.quicks j i at number hash m u h is own hu lt place waits part t tu))
       ∙ sym (by_updates s.marks kinds j m.command)
 
   adopted_marks : (adopting s o).marks ≡ kept ++ fresh
@@ -275,7 +275,7 @@ look_begins pure s ok below o fits its_value = record {
 -- ---- a mark between others that isn't shown
 
 pub value_put : (q : Mark) → is_shown q ≡ false → (c k j : ℕ) → Was c k j → (marks : List Mark) (d : Command) → answer_at (put_before c q marks) k d ≡ answer_at marks j d
-value_put q out c k j w marks d = ap (λ (l : List Mark). (applied (store_after nothing (map asked l)) d).answer) (put_front q c k j w marks is_shown out)
+value_put q out c k j w marks d = ap (λ (l : List Mark). (applied (store_after nothing (map asked l)) d).answer) (put_prefix q c k j w marks is_shown out)
 
 pub values_put : (q : Mark) → is_shown q ≡ false → (c : ℕ) (marks : List Mark) (history : List Event) → ValuesOk marks history → ValuesOk (put_before c q marks) history
 values_put q out c marks history ok k e m a h look f done = elim (put_cases q c marks k m h) [

@@ -31,5 +31,5 @@ pub record LogsOk (parts : List Part) : Type 0 where
   pub gives_once : (n : ℕ) (p : Part) → numbered parts n ≡ Some p → GivesOnce p.log
   pub takes_once : (n : ℕ) (p : Part) → numbered parts n ≡ Some p → TakesOnce p.log
   -- at each cut
-  pub values : (n : ℕ) (p : Part) → numbered parts n ≡ Some p → (front back : List Entry) → front ++ back ≡ p.log
-      → LogValue (record p { log = front })
+  pub values : (n : ℕ) (p : Part) → numbered parts n ≡ Some p → (prefix back : List Entry) → prefix ++ back ≡ p.log
+      → LogValue (record p { log = prefix })

@@ -24,7 +24,7 @@ begin key = record {
   told = [];
   marks = [];
   history = [];
-  left = λ part number. record { front = whole key; back = [] };
+  left = λ part number. record { prefix = whole key; back = [] };
 }
 
 -- the two requests

@@ -26,7 +26,7 @@ by_late o = record { master = o.node; epoch = o.epoch; number = o.capture }
 abbrev pub left_answer : LineState → Late → Answer
 left_answer s o =
     let l = s.left o.part o.number in
-    answer_after l.front.lo l.front.hi (l.front.log ++ l.back) o.command
+    answer_after l.prefix.lo l.prefix.hi (l.prefix.log ++ l.back) o.command
 
 -- at an adopted master: it gives what the log gives, nothing stands behind it, and what is uncompleted before it stands low
 pub record Begun (s : LineState) (o : Look) : Type 0 where
@@ -38,7 +38,7 @@ pub record Begun (s : LineState) (o : Look) : Type 0 where
 abbrev pub QuickBegins : Type 0
 QuickBegins = (s : LineState) (o : Look) → LookFits s o → LogsOk s.parts → LineOk s → Begun s o
 
--- at a superseded one: it gives what the superseded log gives, and what is uncompleted before it stands in the recovered front
+-- at a superseded one: it gives what the superseded log gives, and what is uncompleted before it stands in the recovered prefix
 pub record LateBegun (s : LineState) (o : Late) (fits : LateFits s o) : Type 0 where
   pub gives : QuickGives (late_quickly s o).marks (by_late o) o.part o.id (left_answer s o)
   pub low : QuickLow (late_quickly s o).marks (by_late o) o.part fits.long o.id

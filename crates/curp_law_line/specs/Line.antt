@@ -26,10 +26,10 @@ use Rattle.curp_facts.specs.Facts.{IsAmong}
 use Rattle.curp_law_logs.specs.Hashes.{updates, value}
 use Rattle.curp_law_line.specs.Hashes.{HashesOk, Part, has_take, is_give, is_take, owns, state_of}
 
--- What a superseded master's log is: the front that was recovered when its partition was adopted anew, with the partition's
+-- What a superseded master's log is: the prefix that was recovered when its partition was adopted anew, with the partition's
 -- range, and behind it what didn't come along, and what the master has pushed since
 pub record Left : Type 0 where
-  pub front : Part
+  pub prefix : Part
   pub back : List Entry
 
 -- the adopted log of each partition, the migration in work, the migrations whose package was told, the marks, the history, and
@@ -245,9 +245,9 @@ AwayOk parts told marks place part h = (k i : ℕ) (u : Mark) → At marks k u �
     → u.completed ≡ false → touches u.command h ≡ true → u.part ≢ part
     → ToldAway parts told u i h
 
--- what a superseded log has of the hash is what its front has: the front owns it, and nothing behind touches it
+-- what a superseded log has of the hash is what its prefix has: the prefix owns it, and nothing behind touches it
 pub record IsFirm (l : Left) (h : ℕ) : Type 0 where
-  pub owned : owns l.front h ≡ true
+  pub owned : owns l.prefix h ≡ true
   pub quiet : list_any (λ (e : Entry). entry_touches e h) l.back ≡ false
 
 -- so it is before a quick mark, on each of its hashes
@@ -255,7 +255,7 @@ abbrev pub QuicksOk : List Part → List ℕ → List Mark → Type 0
 QuicksOk parts told marks = (j number h : ℕ) (m : Mark) → At marks j m → m.place ≡ Quick number → touches m.command h ≡ true
     → AwayOk parts told marks j m.part h
 
--- and before the mark of an adoption, on each hash that the superseded log has of its front
+-- and before the mark of an adoption, on each hash that the superseded log has of its prefix
 abbrev pub CutsOk : List Part → List ℕ → (ℕ → ℕ → Left) → List Mark → Type 0
 CutsOk parts told left marks = (j number long h : ℕ) (m : Mark) → At marks j m → m.place ≡ Cut number long
     → IsFirm (left m.part number) h → AwayOk parts told marks j m.part h
@@ -292,11 +292,11 @@ CutsThere marks = (part number : ℕ) → 1 ≤ number → number ≤ adoptions 
 abbrev pub CutsOpen : List Mark → Type 0
 CutsOpen marks = (k : ℕ) (m : Mark) → At marks k m → is_cut m.place ≡ true → m.completed ≡ false
 
--- on each hash that a superseded log has of its front, the order before the mark of the adoption has what the front has
+-- on each hash that a superseded log has of its prefix, the order before the mark of the adoption has what the prefix has
 abbrev pub CutValues : (ℕ → ℕ → Left) → List Mark → Type 0
 CutValues left marks = (j number long : ℕ) (m : Mark) → At marks j m → m.place ≡ Cut number long → (key : List ℕ)
     → IsFirm (left m.part number) (hash_of key)
-    → value key (updates (take j marks)) ≡ store.get (state_of (left m.part number).front).store key
+    → value key (updates (take j marks)) ≡ store.get (state_of (left m.part number).prefix).store key
 
 -- what is kept of quick marks and adoptions
 pub record QuickKept (parts : List Part) (told : List ℕ) (left : ℕ → ℕ → Left) (marks : List Mark) : Type 0 where

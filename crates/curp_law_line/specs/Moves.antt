@@ -242,7 +242,7 @@ pub record Late : Type 0 where
   pub id : RequestId
   pub command : Command
 
--- the request is an invoked read, of whose hashes its log has what the recovered front has
+-- the request is an invoked read, of whose hashes its log has what the recovered prefix has
 pub record LateFits (s : LineState) (o : Late) : Type 0 where
   pub mark : Mark
   pub stands : At s.marks o.place mark
@@ -359,7 +359,7 @@ pub record AdoptFits (s : LineState) (o : Adopt) : Type 0 where
 -- the superseded logs after an adoption: the log as it was is one more
 abbrev pub left_after : LineState → Adopt → ℕ → ℕ → Left
 left_after s o p n =
-    if (p == o.part) && (n == adoptions o.part s.marks + 1) then record { front = record o.p { log = o.stays }; back = o.goes }
+    if (p == o.part) && (n == adoptions o.part s.marks + 1) then record { prefix = record o.p { log = o.stays }; back = o.goes }
     else s.left p n
 
 -- the log is what stays and the replayed requests behind it, and the marks follow

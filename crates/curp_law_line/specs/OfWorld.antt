@@ -67,11 +67,11 @@ cut_length (Cut number length) = length
 
 -- a log, split where the recovered one ended
 abbrev pub left_at : Part → ℕ → Left
-left_at p long = record { front = record p { log = take long p.log }; back = drop long p.log }
+left_at p long = record { prefix = record p { log = take long p.log }; back = drop long p.log }
 
 -- what owns nothing, and so has no value to keep
 abbrev pub no_left : Left
-no_left = record { front = record { lo = 1; hi = 0; log = [] }; back = [] }
+no_left = record { prefix = record { lo = 1; hi = 0; log = [] }; back = [] }
 
 -- the log that a master of the partition has
 abbrev pub log_of : World → ℕ → NodeId → Part

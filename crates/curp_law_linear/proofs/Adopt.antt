@@ -25,7 +25,7 @@ use Rattle.curp_law_line.specs.OfWorld.{cuts, entries_at, left_of, line_of, logg
 use Rattle.curp_law_linear.specs.Ordered.{Ordered}
 use Rattle.curp_law_linear.proofs.AdoptDone.{adopt, done_replayed}
 use Rattle.curp_law_linear.proofs.AdoptHeld.{cuts_short, held_apart, held_asked, looks_short, quicks_short}
-use Rattle.curp_law_linear.proofs.AdoptLeft.{drop_front, left_adopted, left_front}
+use Rattle.curp_law_linear.proofs.AdoptLeft.{drop_prefix, left_adopted, left_prefix}
 use Rattle.curp_law_linear.proofs.AdoptMigrations.{only_moving, told_stays, unowned}
 use Rattle.curp_law_linear.proofs.AdoptRecovery.{Recovery}
 use Rattle.curp_law_linear.proofs.CutMarks.{cuts_adopted}
@@ -53,22 +53,22 @@ requests_of_ops [] = refl
 requests_of_ops (r ∷ rs) = ap (λ (qs : List Request). r ∷ qs) (requests_of_ops rs)
 
 module _ {w : World} (known : Known w) (chain : Predecessors w) (routes : Routes w) (migrated : Migrated w) (ordered : Ordered w)
-    (c : PartConfig) (a : Attempted) (o : Recovery w c a) (front : IsPrefix o.b.log (part_of w c).log) where
+    (c : PartConfig) (a : Attempted) (o : Recovery w c a) (prefix : IsPrefix o.b.log (part_of w c).log) where
   abbrev it : Adopt
-  it = adopt known chain routes migrated ordered c a o front
+  it = adopt known chain routes migrated ordered c a o prefix
 
   -- it can be made
   pub adopt_fits : AdoptFits (line_of w) it
   adopt_fits = record {
     here = entry_part known c o.now;
-    is = sym front.is;
-    moving = only_moving known routes migrated c a o front;
-    unowned = unowned known routes migrated c a o front ordered;
+    is = sym prefix.is;
+    moving = only_moving known routes migrated c a o prefix;
+    unowned = unowned known routes migrated c a o prefix ordered;
     apart = held_apart known c a o;
     asked = held_asked known c a o ordered;
-    done = λ k r acknowledged at d. done_replayed known chain routes migrated ordered c a o front k r acknowledged at d;
+    done = λ k r acknowledged at d. done_replayed known chain routes migrated ordered c a o prefix k r acknowledged at d;
     looks = λ k m number long at part place completed. looks_short known c a o ordered k m number long at part place completed;
-    told = told_stays known routes migrated c a o front;
+    told = told_stays known routes migrated c a o prefix;
     quicks = λ j k i number h m u at is part there lt place waits its touched too. quicks_short known chain ordered c a o j k i number h m u at is part there lt place waits its touched too;
     cuts = λ j number long h m at is part firm. cuts_short known chain ordered c a o j m number long at part is;
   }
@@ -84,7 +84,7 @@ module _ {w : World} (known : Known w) (chain : Predecessors w) (routes : Routes
   behind_cut =
       ap (λ (n : ℕ). op_requests (drop n o.r.log)) o.cut
       ∙ ap (λ (es : List Entry). op_requests (drop (length o.b.log) es)) log_is
-      ∙ ap op_requests (drop_front o.b.log (ops (replayed_of it)))
+      ∙ ap op_requests (drop_prefix o.b.log (ops (replayed_of it)))
       ∙ requests_of_ops (replayed_of it)
 
   -- the marks follow
@@ -121,7 +121,7 @@ module _ {w : World} (known : Known w) (chain : Predecessors w) (routes : Routes
       adopted_left p n =
           left_adopted w v later.shape (λ node. entries_grown w.masters r.state.next.master node.number) c own (last_reign known ordered.cuts_follow c o.now)
           (λ q. ap (cuts q) (moved_marks (Some a) events none r does ∙ marks_are) ∙ cuts_adopted q a.master c.part a.order.epoch (length o.b.log) (replayed_of it) w.marks) p n
-          ∙ ap (λ (l : Left). if (p == c.part) && (n == adoptions c.part w.marks + 1) then l else left_of w p n) (left_front (part_of w c) o.b.log front.rest front.is)
+          ∙ ap (λ (l : Left). if (p == c.part) && (n == adoptions c.part w.marks + 1) then l else left_of w p n) (left_prefix (part_of w c) o.b.log prefix.rest prefix.is)
         where
           own : Mark
           own = cut_mark a.master c.part a.order.epoch (adoptions c.part w.marks + 1) (length o.b.log)

@@ -60,10 +60,10 @@ one_op : {r s : Request} {a b : ℕ} → Op r a ≡ Op s b → r ≡ s
 one_op e = cc
 
 module _ {w : World} (known : Known w) (chain : Predecessors w) (routes : Routes w) (migrated : Migrated w) (ordered : Ordered w)
-    (c : PartConfig) (a : Attempted) (o : Recovery w c a) (front : IsPrefix o.b.log (part_of w c).log) where
+    (c : PartConfig) (a : Attempted) (o : Recovery w c a) (prefix : IsPrefix o.b.log (part_of w c).log) where
   -- the adoption, as the machine makes it
   abbrev pub adopt : Adopt
-  adopt = record { part = c.part; p = part_of w c; node = a.master; epoch = a.order.epoch; stays = o.b.log; goes = front.rest; held = frozen_requests o.x }
+  adopt = record { part = c.part; p = part_of w c; node = a.master; epoch = a.order.epoch; stays = o.b.log; goes = prefix.rest; held = frozen_requests o.x }
 
   abbrev lo : ℕ
   lo = lo_of w c.part
@@ -71,9 +71,9 @@ module _ {w : World} (known : Known w) (chain : Predecessors w) (routes : Routes
   abbrev hi : ℕ
   hi = hi_of w c.part
 
-  module _ (k : ℕ) (r : Request) (acknowledged : ℕ) (at : At front.rest k (Op r acknowledged)) where
+  module _ (k : ℕ) (r : Request) (acknowledged : ℕ) (at : At prefix.rest k (Op r acknowledged)) where
     own : (l : AdoptedLog w c) × At l.its.log (length o.b.log + k) (Op r acknowledged)
-    own = adopted_at known routes migrated c a o front (length o.b.log + k) (Op r acknowledged) (goes_at known routes migrated c a o front k (Op r acknowledged) at)
+    own = adopted_at known routes migrated c a o prefix (length o.b.log + k) (Op r acknowledged) (goes_at known routes migrated c a o prefix k (Op r acknowledged) at)
 
     update : UpdateOk w r
     update = (adopted_entry known c own.0 (length o.b.log + k) (Op r acknowledged) own.1).0
@@ -82,13 +82,13 @@ module _ {w : World} (known : Known w) (chain : Predecessors w) (routes : Routes
     one_place : (d : PartConfig) (l : AdoptedLog w d) (i : ℕ) (s : Request) (b : ℕ) → At l.its.log i (Op s b) → s.id ≡ r.id → (c.part ≡ d.part) × (length o.b.log + k ≡ i)
     one_place d l i s b stands same =
         ordered.line.order.once c.part d.part (part_of w c) (part_of w d) (length o.b.log + k) i r s acknowledged b (entry_part known c o.now) (entry_part known d l.now)
-        (goes_at known routes migrated c a o front k (Op r acknowledged) at) (subst (λ (es : List Entry). At es i (Op s b)) (sym (part_log known d l)) stands) (sym same)
+        (goes_at known routes migrated c a o prefix k (Op r acknowledged) at) (subst (λ (es : List Entry). At es i (Op s b)) (sym (part_log known d l)) stands) (sym same)
 
     -- so it stands on no backups of an adopted log
     not_stored_at : (d : PartConfig) (l : AdoptedLog w d) (i : ℕ) (s : Request) (b : ℕ) → At l.its.log i (Op s b) → s.id ≡ r.id → AllStored w d (i + 1) → ⊥
     not_stored_at d l i s b stands same all =
         let place = one_place d l i s b stands same in
-        let low = stored_stays known routes migrated c a o front d (one_entry known d c l.now o.now (sym place.0)) (i + 1) all in
+        let low = stored_stays known routes migrated c a o prefix d (one_entry known d c l.now o.now (sym place.0)) (i + 1) all in
         omega (arith, place.1, low)
 
     not_stored : (ans : Answer) → OpStored w r.id ans → ⊥
@@ -101,7 +101,7 @@ module _ {w : World} (known : Known w) (chain : Predecessors w) (routes : Routes
     -- and it isn't on the backup
     not_kept : (i : ℕ) (s : Request) (b : ℕ) → At o.b.log i (Op s b) → s.id ≡ r.id → ⊥
     not_kept i s b stands same =
-        let there : At own.0.its.log i (Op s b) = subst (λ (es : List Entry). At es i (Op s b)) (part_log known c own.0) (prefix_at front i (Op s b) stands) in
+        let there : At own.0.its.log i (Op s b) = subst (λ (es : List Entry). At es i (Op s b)) (part_log known c own.0) (prefix_at prefix i (Op s b) stands) in
         let place = one_place c own.0 i s b there same in
         omega (arith, place.1, at_within o.b.log i (Op s b) stands)
 
@@ -112,7 +112,7 @@ module _ {w : World} (known : Known w) (chain : Predecessors w) (routes : Routes
         index = b.index;
         migration = b.migration;
         brought = b.brought;
-        stands = subst (λ (es : List Entry). At es b.index (Give b.migration b.brought)) (part_log known c own.0) (prefix_at front b.index (Give b.migration b.brought) b.stands);
+        stands = subst (λ (es : List Entry). At es b.index (Give b.migration b.brought)) (part_log known c own.0) (prefix_at prefix b.index (Give b.migration b.brought) b.stands);
         place = b.place;
         its_record = b.its_record;
       })
@@ -171,7 +171,7 @@ module _ {w : World} (known : Known w) (chain : Predecessors w) (routes : Routes
 
     -- nothing that goes before it touches its hashes
     abbrev Quiet : Type 0
-    Quiet = (h : ℕ) → touches r.command h ≡ true → list_any (λ (e : Entry). entry_touches e h) (take k front.rest) ≡ false
+    Quiet = (h : ℕ) → touches r.command h ≡ true → list_any (λ (e : Entry). entry_touches e h) (take k prefix.rest) ≡ false
 
     module _ (part : ℕ) (ans : Answer) (reply : IsWitnessed w part r.id ans) (e : EarlySaid w reply.lists.master reply.reply) where
       in_part : e.lists.part ≡ part
@@ -204,24 +204,24 @@ module _ {w : World} (known : Known w) (chain : Predecessors w) (routes : Routes
               (known.names.agree e.lists (lists_of_part c) e.adopted.given top_now.was.given).by_version master (omega (arith, above, top_now.versions e.lists e.adopted same_part))
 
           quiet : e.lists ≡ lists_of_part c → Quiet
-          quiet same h touch = none_any (λ (x : Entry). entry_touches x h) (take k front.rest) touched
+          quiet same h touch = none_any (λ (x : Entry). entry_touches x h) (take k prefix.rest) touched
             where
               stored : e.synced ≤ length o.b.log
               stored = Each-at (HasMany w e.synced) c.backups (subst (λ (l : Lists). Each (HasMany w e.synced) l.backups) same e.stored) o.ok.its_backup.place a.order.backup o.ok.its_backup.stands o.b o.its_backup
 
-              in_log : (j : ℕ) (x : Entry) → At front.rest j x → At e.m.log (length o.b.log + j) x
+              in_log : (j : ℕ) (x : Entry) → At prefix.rest j x → At e.m.log (length o.b.log + j) x
               in_log j x stands =
                   let its : Logged = record { log = e.m.log; round = e.m.round } in
                   let has : HasLog w c.master its = subst (λ (node : NodeId). HasLog w node its) (sym e.its_master ∙ master) (record { m = Serving e.m; is = e.serves; its_log = refl }) in
-                  let here : At own.0.its.log (length o.b.log + j) x = subst (λ (es : List Entry). At es (length o.b.log + j) x) (part_log known c own.0) (goes_at known routes migrated c a o front j x stands) in
+                  let here : At own.0.its.log (length o.b.log + j) x = subst (λ (es : List Entry). At es (length o.b.log + j) x) (part_log known c own.0) (goes_at known routes migrated c a o prefix j x stands) in
                   subst (λ (l : Logged). At l.log (length o.b.log + j) x) (sym (one_log its own.0.its has own.0.its_log)) here
 
               both : {b : Bool} → b ≡ true → b ≡ false → ⊥
               both y n = cc
 
-              touched : (j : ℕ) (x : Entry) → At (take k front.rest) j x → entry_touches x h ≡ true → ⊥
+              touched : (j : ℕ) (x : Entry) → At (take k prefix.rest) j x → entry_touches x h ≡ true → ⊥
               touched j x stands is =
-                  let t = at_take k front.rest j x stands in
+                  let t = at_take k prefix.rest j x stands in
                   let apart = e.apart (length o.b.log + j) x (omega (arith, stored)) (omega (arith, t.0, index_is.0)) (in_log j x t.1) in
                   both is (each_touched (λ (y : ℕ). entry_touches x y ≡ false) e.request.command apart h (subst (λ (q : Request). touches q.command h ≡ true) (sym index_is.1) touch))
 

@@ -23,17 +23,17 @@ past_end (x ∷ xs) zero low = absurd (omega (arith, low))
 past_end (x ∷ xs) (suc i) low = past_end xs i (omega (arith, low))
 
 -- a log that begins so, split behind that
-take_front : {A : Type 0} (xs ys : List A) → take (length xs) (xs ++ ys) ≡ xs
-take_front [] ys = refl
-take_front (x ∷ xs) ys = ap (λ zs. x ∷ zs) (take_front xs ys)
+take_prefix : {A : Type 0} (xs ys : List A) → take (length xs) (xs ++ ys) ≡ xs
+take_prefix [] ys = refl
+take_prefix (x ∷ xs) ys = ap (λ zs. x ∷ zs) (take_prefix xs ys)
 
-pub drop_front : {A : Type 0} (xs ys : List A) → drop (length xs) (xs ++ ys) ≡ ys
-drop_front [] ys = refl
-drop_front (x ∷ xs) ys = drop_front xs ys
+pub drop_prefix : {A : Type 0} (xs ys : List A) → drop (length xs) (xs ++ ys) ≡ ys
+drop_prefix [] ys = refl
+drop_prefix (x ∷ xs) ys = drop_prefix xs ys
 
-pub left_front : (p : Part) (front back : List Entry) → front ++ back ≡ p.log → left_at p (length front) ≡ record { front = record p { log = front }; back = back }
-left_front p front back is =
-    ap₂ (λ (xs ys : List Entry). record { front = record p { log = xs }; back = ys }) (ap (take (length front)) (sym is) ∙ take_front front back) (ap (drop (length front)) (sym is) ∙ drop_front front back)
+pub left_prefix : (p : Part) (prefix back : List Entry) → prefix ++ back ≡ p.log → left_at p (length prefix) ≡ record { prefix = record p { log = prefix }; back = back }
+left_prefix p prefix back is =
+    ap₂ (λ (xs ys : List Entry). record { prefix = record p { log = xs }; back = ys }) (ap (take (length prefix)) (sym is) ∙ take_prefix prefix back) (ap (drop (length prefix)) (sym is) ∙ drop_prefix prefix back)
 
 not_same : (m n : ℕ) → (m ≡ n → ⊥) → (m == n) ≡ false
 not_same m n apart = go (m == n) refl

@@ -105,10 +105,10 @@ module _ {w : World} (known : Known w) where
     pub moving_give : (m : Migration) → w.manager.moving ≡ Some m → (d : PartConfig) (l : AdoptedLog w d) (i number : ℕ) (p : Package) → At l.its.log i (Give number p) → m.number ≡ number → d.part ≡ m.target
     moving_give m in_work d l i number p at same = (routes.in_work m in_work).to_target d.part (record { migration = number; «package» = p }) (adopted_entry known d l i (Give number p) at).0 (sym same)
 
-    module _ (migrated : Migrated w) (c : PartConfig) (a : Attempted) (o : Recovery w c a) (front : IsPrefix o.b.log (part_of w c).log) where
+    module _ (migrated : Migrated w) (c : PartConfig) (a : Attempted) (o : Recovery w c a) (prefix : IsPrefix o.b.log (part_of w c).log) where
       -- what goes stands behind what stays
-      pub goes_at : (k : ℕ) (e : Entry) → At front.rest k e → At (part_of w c).log (length o.b.log + k) e
-      goes_at k e at = subst (λ (es : List Entry). At es (length o.b.log + k) e) front.is (at_append_right o.b.log front.rest k (length o.b.log + k) e refl at)
+      pub goes_at : (k : ℕ) (e : Entry) → At prefix.rest k e → At (part_of w c).log (length o.b.log + k) e
+      goes_at k e at = subst (λ (es : List Entry). At es (length o.b.log + k) e) prefix.is (at_append_right o.b.log prefix.rest k (length o.b.log + k) e refl at)
 
       -- and then there is an adopted log
       pub adopted_at : (k : ℕ) (e : Entry) → At (part_of w c).log k e → (l : AdoptedLog w c) × At l.its.log k e
@@ -147,7 +147,7 @@ module _ {w : World} (known : Known w) where
               ]
 
       -- (a) of takes and gives, those of the migration in work go alone
-      pub only_moving : (k : ℕ) (e : Entry) → At front.rest k e → OnlyMoving (line_of w) e
+      pub only_moving : (k : ℕ) (e : Entry) → At prefix.rest k e → OnlyMoving (line_of w) e
       only_moving k (Op r acknowledged) at = tt
       only_moving k (Take number taken) at =
           let l = adopted_at (length o.b.log + k) (Take number taken) (goes_at k (Take number taken) at) in
@@ -163,7 +163,7 @@ module _ {w : World} (known : Known w) where
       only_moving k (Expire client) at = tt
 
       -- a take of the migration in work and a give of it stand in no one log
-      not_both : (i k number other : ℕ) (p q : Package) → At front.rest i (Take number p) → At front.rest k (Give other q) → ⊥
+      not_both : (i k number other : ℕ) (p q : Package) → At prefix.rest i (Take number p) → At prefix.rest k (Give other q) → ⊥
       not_both i k number other p q taken given =
           let l = adopted_at (length o.b.log + i) (Take number p) (goes_at i (Take number p) taken) in
           let j = adopted_at (length o.b.log + k) (Give other q) (goes_at k (Give other q) given) in
@@ -178,8 +178,8 @@ module _ {w : World} (known : Known w) where
           some e = cc
 
       -- (b) where a give goes, what stays doesn't own its hashes
-      pub unowned : Ordered w → (h : ℕ) → list_any (gives h) front.rest ≡ true → owns (record (part_of w c) { log = o.b.log }) h ≡ false
-      unowned ordered h any = let g = any_at (gives h) front.rest any in by_give g.0 g.1 g.2 g.3
+      pub unowned : Ordered w → (h : ℕ) → list_any (gives h) prefix.rest ≡ true → owns (record (part_of w c) { log = o.b.log }) h ≡ false
+      unowned ordered h any = let g = any_at (gives h) prefix.rest any in by_give g.0 g.1 g.2 g.3
         where
           lo : ℕ
           lo = lo_of w c.part
@@ -187,7 +187,7 @@ module _ {w : World} (known : Known w) where
           hi : ℕ
           hi = hi_of w c.part
 
-          by_give : (k : ℕ) (e : Entry) → At front.rest k e → gives h e ≡ true → is_owned (meaning lo hi o.b.log).owned h ≡ false
+          by_give : (k : ℕ) (e : Entry) → At prefix.rest k e → gives h e ≡ true → is_owned (meaning lo hi o.b.log).owned h ≡ false
           by_give k (Op r acknowledged) at covers = absurd cc
           by_give k (Take number taken) at covers = absurd cc
           by_give k (Expire client) at covers = absurd cc
@@ -199,12 +199,12 @@ module _ {w : World} (known : Known w) where
               away : is_owned (meaning lo hi (take (length o.b.log + k) l.0.its.log)).owned h ≡ false
               away = (gives_at l.0.its.log (log_opening lo hi) 0 (length o.b.log + k) number given (ordered.logs c l.0).fit l.1).away h covers
 
-              before : take (length o.b.log + k) l.0.its.log ≡ o.b.log ++ take k front.rest
-              before = ap (take (length o.b.log + k)) (sym (part_log known c l.0) ∙ sym front.is) ∙ take-append-add o.b.log front.rest k
+              before : take (length o.b.log + k) l.0.its.log ≡ o.b.log ++ take k prefix.rest
+              before = ap (take (length o.b.log + k)) (sym (part_log known c l.0) ∙ sym prefix.is) ∙ take-append-add o.b.log prefix.rest k
 
-              no_take : (j : ℕ) (e : Entry) → At (take k front.rest) j e → takes h e ≡ true → ⊥
+              no_take : (j : ℕ) (e : Entry) → At (take k prefix.rest) j e → takes h e ≡ true → ⊥
               no_take j (Op r acknowledged) stands is = cc
-              no_take j (Take other taken) stands is = not_both j k other number taken given (at_take k front.rest j (Take other taken) stands).1 at
+              no_take j (Take other taken) stands is = not_both j k other number taken given (at_take k prefix.rest j (Take other taken) stands).1 at
               no_take j (Give other brought) stands is = cc
               no_take j (Expire client) stands is = cc
 
@@ -214,8 +214,8 @@ module _ {w : World} (known : Known w) where
               go : (b : Bool) → is_owned (meaning lo hi o.b.log).owned h ≡ b → is_owned (meaning lo hi o.b.log).owned h ≡ false
               go false e = e
               go true e =
-                  let kept = owned_after lo hi h o.b.log (take k front.rest) e (none_any (takes h) (take k front.rest) no_take) in
-                  absurd (both (is_owned (meaning lo hi (o.b.log ++ take k front.rest)).owned h) kept (subst (λ (es : List Entry). is_owned (meaning lo hi es).owned h ≡ false) before away))
+                  let kept = owned_after lo hi h o.b.log (take k prefix.rest) e (none_any (takes h) (take k prefix.rest) no_take) in
+                  absurd (both (is_owned (meaning lo hi (o.b.log ++ take k prefix.rest)).owned h) kept (subst (λ (es : List Entry). is_owned (meaning lo hi es).owned h ≡ false) before away))
 
       -- (f) the take of a migration that was told stays
       pub told_stays : (number : ℕ) → IsAmong number (line_of w).told → list_any (is_take number) (part_of w c).log ≡ true → list_any (is_take number) o.b.log ≡ true
@@ -233,7 +233,7 @@ module _ {w : World} (known : Known w) where
               let here : g.source ≡ c = one_source c g.source l.0 g.its e.0 g.index number it.0 t.package l.1 taken in
               let low = stored_stays g.source here (g.index + 1) g.stored in
               let in_log : At (part_of w c).log g.index (Take number t.package) = subst (λ (es : List Entry). At es g.index (Take number t.package)) (one_adopted c g.source here l.0 g.its ∙ sym (part_log known c l.0)) taken in
-              at_any (is_take number) o.b.log g.index (Take number t.package) (prefix_back front g.index (Take number t.package) (omega (arith, low)) in_log) (same_number number)
+              at_any (is_take number) o.b.log g.index (Take number t.package) (prefix_back prefix g.index (Take number t.package) (omega (arith, low)) in_log) (same_number number)
 
           at_manager : (node : NodeId) → IsOf w kind.Manager node → node ≡ manager_node
           at_manager node of = ap (λ (k : NodeKind). record { kind = k; number = node.number }) of.0 ∙ ap (λ (n : ℕ). record { kind = kind.Manager; number = n }) of.1

@@ -108,5 +108,5 @@ module _ {w : World} (known : Known w) where
   pub backup_begins : (c : PartConfig) (a : Attempted) (o : Recovery w c a) → IsPrefix o.b.log (part_of w c).log
   backup_begins c a o = elim (known.inv.backups (lists_of_part c) (known.names.top c o.now).was.given a.order.backup o.ok.its_backup o.b o.its_backup).follows [
     | inl none ↦ subst (λ (es : List Entry). IsPrefix es (part_of w c).log) (sym none) (prefix_push [] (part_of w c).log)
-    | inr f ↦ subst (IsPrefix o.b.log) (sym (part_log known c (record { now = o.now; its = f.its; its_log = f.its_log }))) f.front
+    | inr f ↦ subst (IsPrefix o.b.log) (sym (part_log known c (record { now = o.now; its = f.its; its_log = f.its_log }))) f.prefix
   ]

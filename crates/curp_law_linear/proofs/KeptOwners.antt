@@ -35,14 +35,14 @@ use Rattle.curp_facts.specs.Migrated.{Migrated, TakeStored}
 use Rattle.curp_facts.specs.Routes.{IsMigrationDone, IsGiveOf, IsMoving, Routes}
 use Rattle.curp_facts.specs.Stored.{StoredNow}
 use Rattle.curp_law_routes.proofs.Migrated.{one_stored, work_or_done}
-use Rattle.curp_law_routes.proofs.Stored.{entry_of, front_at, one_adopted, stored_now}
+use Rattle.curp_law_routes.proofs.Stored.{entry_of, place_in_prefix, one_adopted, stored_now}
 use Rattle.curp_cmd.proofs.Apart.{same_number}
 
 -- behind a give its range is owned
-given_owned : (lo hi : ℕ) (front : List Entry) (number : ℕ) (given : Package) (h : ℕ) → is_in given.lo given.hi h ≡ true → is_owned (meaning lo hi (front ++ Give number given ∷ [])).owned h ≡ true
+given_owned : (lo hi : ℕ) (prefix : List Entry) (number : ℕ) (given : Package) (h : ℕ) → is_in given.lo given.hi h ≡ true → is_owned (meaning lo hi (prefix ++ Give number given ∷ [])).owned h ≡ true
 unfolding after_entry
-given_owned lo hi front number given h inside =
-    ap (λ (s : LogState). is_owned s.owned h) (meaning_append lo hi front (Give number given ∷ [])) ∙ with_range_has (meaning lo hi front).owned given.lo given.hi h (or_left _ _ inside)
+given_owned lo hi prefix number given h inside =
+    ap (λ (s : LogState). is_owned s.owned h) (meaning_append lo hi prefix (Give number given ∷ [])) ∙ with_range_has (meaning lo hi prefix).owned given.lo given.hi h (or_left _ _ inside)
 
 module _ {w : World} (known : Known w) (chain : Predecessors w) (routes : Routes w) (migrated : Migrated w) (ordered : Ordered w) (serves : OpeningServes w) (h : ℕ) where
   -- the first entries of an adopted log leave its partition with the hash
@@ -93,7 +93,7 @@ module _ {w : World} (known : Known w) (chain : Predecessors w) (routes : Routes
         let g : StoredEntry w done.target (IsGiveOf number) = done.given in
         let n : StoredNow w g.lists.part g.l.log g.index = stored_now known.names known.inv chain done.target (IsGiveOf number) g in
         by_give n.entry n.its g.index g.is.0
-        (front_at g.index g.l.log n.its.its.log g.index (Give number g.is.0) (at_within g.l.log g.index g.entry g.stands) n.front (omega arith) (subst (At g.l.log g.index) g.is.1 g.stands))
+        (place_in_prefix g.index g.l.log n.its.its.log g.index (Give number g.is.0) (at_within g.l.log g.index g.entry g.stands) n.prefix (omega arith) (subst (At g.l.log g.index) g.is.1 g.stands))
 
     -- of the one in work the give stands at the target, or nowhere
     by_work : IsMoving w number → Result

@@ -75,5 +75,5 @@ seen_kept {w} known place l given q at = record {
           | inl none ↦ absurd (omega (arith, low, many, ap (λ (es : List Entry). length es) none))
           | inr f ↦
               let one = one_log w l.master _ _ (subst (λ (z : NodeId). HasLog w z f.its) master f.its_log) has in
-              prefix_back f.front k e (omega (arith, low, many)) (subst (λ (g : Logged). At g.log k e) (sym one) here)
+              prefix_back f.prefix k e (omega (arith, low, many)) (subst (λ (g : Logged). At g.log k e) (sym one) here)
         ]

@@ -26,7 +26,7 @@ left_is w part number r m s = ap₂ (left_by w part) s.before s.cut
 -- a log that is split, and has more at its end
 pub split_longer : (p : Part) (more : List Entry) (long : ℕ) → long ≤ length p.log
     → left_at (record p { log = p.log ++ more }) long ≡ record (left_at p long) { back = (left_at p long).back ++ more }
-split_longer p more long low = ap₂ (λ (front back : List Entry). record { front = record p { log = front }; back = back }) (take-append-le long p.log more low) (drop-append-le long p.log more low)
+split_longer p more long low = ap₂ (λ (prefix back : List Entry). record { prefix = record p { log = prefix }; back = back }) (take-append-le long p.log more low) (drop-append-le long p.log more low)
 
 module _ (w v : World) (shape : v.manager.shape ≡ w.manager.shape) where
   -- a master's log, by its entries

@@ -23,7 +23,7 @@ use Rattle.curp_law_line.specs.Moves.{ops, replayed_of}
 use Rattle.curp_law_line.specs.OfWorld.{entries_at, line_of, logged_entries, part_of}
 use Rattle.curp_base.proofs.Numbered.{numbered_set_cases}
 use Rattle.curp_law_logs.specs.Gives.{GivesFit}
-use Rattle.curp_law_logs.proofs.Gives.{NoGives, gives_fit_front, gives_fit_more}
+use Rattle.curp_law_logs.proofs.Gives.{NoGives, gives_fit_prefix, gives_fit_more}
 use Rattle.curp_law_linear.specs.Ordered.{AdoptedLogOk, MigrationsRise, Ordered, moved_number}
 use Rattle.curp_law_linear.proofs.Adopt.{adopted_parts}
 use Rattle.curp_law_linear.proofs.AdoptDone.{adopt}
@@ -75,15 +75,15 @@ ops_move_nothing (r ∷ rs) zero m e at is = none (let same : Op r 0 ≡ e = cc 
 ops_move_nothing (r ∷ rs) (suc k) m e at is = ops_move_nothing rs k m e at is
 
 -- a beginning of a log that fits, with ops behind it, fits
-pub front_fits : (p : Part) (stays : List Entry) (rs : List Request) → IsPrefix stays p.log → LogFits p → LogFits (record p { log = stays ++ ops rs })
-front_fits p stays rs front fits = (rise, gives_fit_more p.lo p.hi stays (ops rs) (gives_fit_front stays front.rest (log_opening p.lo p.hi) 0 (subst (GivesFit (log_opening p.lo p.hi) 0) (sym front.is) fits.1)) none)
+pub prefix_fits : (p : Part) (stays : List Entry) (rs : List Request) → IsPrefix stays p.log → LogFits p → LogFits (record p { log = stays ++ ops rs })
+prefix_fits p stays rs prefix fits = (rise, gives_fit_more p.lo p.hi stays (ops rs) (gives_fit_prefix stays prefix.rest (log_opening p.lo p.hi) 0 (subst (GivesFit (log_opening p.lo p.hi) 0) (sym prefix.is) fits.1)) none)
   where
     none : NoGives (ops rs)
     none k number brought at = ops_move_nothing rs k number (Give number brought) at refl
 
     old : (k m : ℕ) (e : Entry) → At (stays ++ ops rs) k e → moved_number e ≡ Some m → At p.log k e
     old k m e at is = elim (at_append_cases stays (ops rs) k e at) [
-      | inl here ↦ prefix_at front k e here
+      | inl here ↦ prefix_at prefix k e here
       | inr new ↦ absurd (ops_move_nothing rs new.0 m e new.2 is)
     ]
 
@@ -102,13 +102,13 @@ module _ {w : World} (known : Known w) (chain : Predecessors w) (routes : Routes
   leads_fit r does None (Ends m seats its done from sent) names later = steady_fits r later seats
   leads_fit r does (Some _) (Renews a o parts moving) names later =
       let rec : Recovery w o.c a = recovery known a o in
-      let front = backup_begins known o.c a rec in
-      let rs : List Request = replayed_of (adopt known chain routes migrated ordered o.c a rec front) in
+      let prefix = backup_begins known o.c a rec in
+      let rs : List Request = replayed_of (adopt known chain routes migrated ordered o.c a rec prefix) in
       let log : List Entry = rec.b.log ++ ops rs in
       let here = entry_part known o.c o.now in
-      subst PartsFit (sym (adopted_parts known chain routes migrated ordered o.c a rec front events none r does names later parts moving))
+      subst PartsFit (sym (adopted_parts known chain routes migrated ordered o.c a rec prefix events none r does names later parts moving))
       (λ n p at. elim (numbered_set_cases (line_of w).parts o.c.part (part_of w o.c) (record (part_of w o.c) { log = log }) here n p at) [
-        | inr new ↦ subst LogFits new.1 (front_fits (part_of w o.c) rec.b.log rs front (parts_fit known ordered o.c.part (part_of w o.c) here))
+        | inr new ↦ subst LogFits new.1 (prefix_fits (part_of w o.c) rec.b.log rs prefix (parts_fit known ordered o.c.part (part_of w o.c) here))
         | inl old ↦ parts_fit known ordered n p old.1
       ])
 

@@ -66,18 +66,18 @@ module _ {w : World} (known : Known w) (chain : Predecessors w) (routes : Routes
       record { its = q.its; adopts = q.quiet; early = tt }
   leads_refine r does (Some _) (Renews a o parts moving) names later after =
       let rec : Recovery w o.c a = recovery known a o in
-      let front = backup_begins known o.c a rec in
+      let prefix = backup_begins known o.c a rec in
       record {
         its = record {
-          moves = Adopts (adopt known chain routes migrated ordered o.c a rec front) ∷ [];
-          fit = (adopt_fits known chain routes migrated ordered o.c a rec front, line_logs known ordered, tt);
-          leads = sym (adopt_leads known chain routes migrated ordered o.c a rec front events none r does names later parts moving);
+          moves = Adopts (adopt known chain routes migrated ordered o.c a rec prefix) ∷ [];
+          fit = (adopt_fits known chain routes migrated ordered o.c a rec prefix, line_logs known ordered, tt);
+          leads = sym (adopt_leads known chain routes migrated ordered o.c a rec prefix events none r does names later parts moving);
         };
         adopts = λ h. ((sym rec.ok.its_part, same_cut o.c a rec h), tt);
         early = λ id c.
             subst (λ (p : ℕ). CutEarly (line_of (manager_moved w (Some a) events r)) p (adoptions p w.marks + 1) id c) (sym rec.ok.its_part)
-            (subst (λ (l : LineState). CutEarly l o.c.part (adoptions o.c.part w.marks + 1) id c) (sym (adopt_leads known chain routes migrated ordered o.c a rec front events none r does names later parts moving))
-            (cut_early_begins (line_of w) (adopt known chain routes migrated ordered o.c a rec front) id c));
+            (subst (λ (l : LineState). CutEarly l o.c.part (adoptions o.c.part w.marks + 1) id c) (sym (adopt_leads known chain routes migrated ordered o.c a rec prefix events none r does names later parts moving))
+            (cut_early_begins (line_of w) (adopt known chain routes migrated ordered o.c a rec prefix) id c));
       }
 
   -- whatever comes to the manager

@@ -173,10 +173,10 @@ module _ {w v : World} (known : Known w) (chain : Predecessors w) (routes : Rout
     pub serving_fit : GivesFit (log_opening (lo_of w c.part) (hi_of w c.part)) 0 k.log
     serving_fit = new_fit known chain routes migrated ordered c mine k.log life.log new_log
 
-    -- with this front of the new log
-    module _ (front : IsPrefix m.log k.log) where
+    -- with this prefix of the new log
+    module _ (prefix : IsPrefix m.log k.log) where
       abbrev at : List Entry → List Mark → LineState
-      at log marks = line_at known chain routes migrated ordered c mine k.log front new_log log marks
+      at log marks = line_at known chain routes migrated ordered c mine k.log prefix new_log log marks
 
       begins : line_of w ≡ at m.log w.marks
       begins = ap (λ (parts : List Part). record (line_of w) { parts = parts })
@@ -185,20 +185,20 @@ module _ {w v : World} (known : Known w) (chain : Predecessors w) (routes : Rout
 
       serving_refines : Captures m k → is_adopted w.manager (master_node n) ≡ true → MarksAfter (Serving m) (Serving k) → RefinesQuiet w v
       serving_refines captures adopted_now marked =
-          let pushed_marks : List Mark = w.marks ++ op_marks (master_node n) c.part k.epoch (length m.log) front.rest in
+          let pushed_marks : List Mark = w.marks ++ op_marks (master_node n) c.part k.epoch (length m.log) prefix.rest in
           let all_marks : List Mark = pushed_marks ++ map (capture_mark (master_node n) c.part k.epoch) (new_captures m.captured k.captures) in
-          let pushes = push_all known chain routes migrated ordered c mine k.log front new_log (master_node n) k.epoch front.rest m.log w.marks front.is (prefix_self m.log) in
-          let looks = look_all known chain routes migrated ordered c mine k.log front new_log (master_node n) k.epoch m k (serves.lo ∙ ap (lo_of w) (sym its_part)) (serves.hi ∙ ap (hi_of w) (sym its_part)) refl captures
+          let pushes = push_all known chain routes migrated ordered c mine k.log prefix new_log (master_node n) k.epoch prefix.rest m.log w.marks prefix.is (prefix_self m.log) in
+          let looks = look_all known chain routes migrated ordered c mine k.log prefix new_log (master_node n) k.epoch m k (serves.lo ∙ ap (lo_of w) (sym its_part)) (serves.hi ∙ ap (hi_of w) (sym its_part)) refl captures
           (Each-weaker (CapturedOk w m) (λ (x : Captured). x.number ≤ m.captured) (λ (x : Captured) o. o.number) m.captures serves.captures) step.move.captures pushed_marks in
           let first = leads_on (line_of w) (at m.log w.marks) (at k.log pushed_marks) (leads_none (line_of w) (at m.log w.marks) begins) pushes in
           finish (Serving m) (Serving k) step (relogged (line_of w).parts c.part (part_of w c) k.log) all_marks (left_of w) (leads_on (line_of w) (at k.log pushed_marks) (at k.log all_marks) first looks)
           (parts_grow known n from heard (Serving m) (Serving k) out step c now its)
           (marked ∙ ap (λ (b : Bool). if b then w.marks ++ master_marks (master_node n) (Serving m) (Serving k) else w.marks) adopted_now
           ∙ ap₂ (λ (p : ℕ) (es : List Entry). w.marks ++ (op_marks (master_node n) p k.epoch (length m.log) es ++ map (capture_mark (master_node n) p k.epoch) (new_captures m.captured k.captures)))
-          (life.part ∙ sym its_part) (ap (drop (length m.log)) (sym front.is) ∙ drop-append_seam m.log front.rest)
-          ∙ sym (append_assoc w.marks (op_marks (master_node n) c.part k.epoch (length m.log) front.rest) (map (capture_mark (master_node n) c.part k.epoch) (new_captures m.captured k.captures))))
+          (life.part ∙ sym its_part) (ap (drop (length m.log)) (sym prefix.is) ∙ drop-append_seam m.log prefix.rest)
+          ∙ sym (append_assoc w.marks (op_marks (master_node n) c.part k.epoch (length m.log) prefix.rest) (map (capture_mark (master_node n) c.part k.epoch) (new_captures m.captured k.captures))))
           (left_same (Serving m) (Serving k) step (λ part number r x h same. absurd (superseded_out known ordered.cuts_follow part number r x h c now (its ∙ sym same))) marked)
-          (logs_at known chain routes migrated ordered c mine k.log front new_log k.log all_marks (prefix_self k.log))
+          (logs_at known chain routes migrated ordered c mine k.log prefix new_log k.log all_marks (prefix_self k.log))
 
   -- ---- one that isn't adopted
 
@@ -212,23 +212,23 @@ module _ {w v : World} (known : Known w) (chain : Predecessors w) (routes : Rout
 
     -- what it pushes comes to its superseded log
     strays : IsPrefix m.log k.log → MarksAfter (Serving m) (Serving k) → RefinesQuiet w v
-    strays front marked =
-        finish (Serving m) (Serving k) step (line_of w).parts w.marks (longer_left (left_of w) m.part its_end.number front.rest)
-        (leads_first (line_of w) _ (Strays m.part its_end.number front.rest) tt tt (line_logs known ordered) (leads_none _ _ refl))
+    strays prefix marked =
+        finish (Serving m) (Serving k) step (line_of w).parts w.marks (longer_left (left_of w) m.part its_end.number prefix.rest)
+        (leads_first (line_of w) _ (Strays m.part its_end.number prefix.rest) tt tt (line_logs known ordered) (leads_none _ _ refl))
         (parts_stay known n from heard (Serving m) (Serving k) out step (λ d now. other_part known n from heard (Serving m) (Serving k) out step d now (adopted_out known n from heard (Serving m) (Serving k) out step out_of d now)))
         (marked ∙ ap (λ (b : Bool). if b then w.marks ++ master_marks (master_node n) (Serving m) (Serving k) else w.marks) out_of)
         longer
         (line_logs known ordered)
       where
-        own : (r : Reign) → r.master ≡ master_node n → entries_at (numbered v.masters r.master.number) ≡ entries_at (numbered w.masters r.master.number) ++ front.rest
+        own : (r : Reign) → r.master ≡ master_node n → entries_at (numbered v.masters r.master.number) ≡ entries_at (numbered w.masters r.master.number) ++ prefix.rest
         own r its =
-            own_log_after known n from heard (Serving m) (Serving k) out step r.master its ∙ sym front.is
-            ∙ ap (λ (es : List Entry). es ++ front.rest) (sym (own_log_before known n from heard (Serving m) (Serving k) out step r.master its))
+            own_log_after known n from heard (Serving m) (Serving k) out step r.master its ∙ sym prefix.is
+            ∙ ap (λ (es : List Entry). es ++ prefix.rest) (sym (own_log_before known n from heard (Serving m) (Serving k) out step r.master its))
 
-        longer : (p q : ℕ) → left_of v p q ≡ longer_left (left_of w) m.part its_end.number front.rest p q
+        longer : (p q : ℕ) → left_of v p q ≡ longer_left (left_of w) m.part its_end.number prefix.rest p q
         longer = left_longer w v (shape_stays (Serving m) (Serving k) step)
             (cuts_marked w v (master_node n) (Serving m) (Serving k) (is_adopted w.manager (master_node n)) marked) m.part its_end.number its_end.r its_end.m its_end.its
-            (superseded_low known ordered.cuts_follow m.part its_end.number its_end.r its_end.m its_end.its) front.rest (own its_end.r its_end.its_master)
+            (superseded_low known ordered.cuts_follow m.part its_end.number its_end.r its_end.m its_end.its) prefix.rest (own its_end.r its_end.its_master)
             (λ p q r c h. elim (either_node r.master (master_node n)) [
               | inl same ↦ inl (superseded_once known ordered.cuts_follow m.part its_end.number p q its_end.r r its_end.m c its_end.its h (same ∙ sym its_end.its_master))
               | inr apart ↦ inr (other_log (Serving m) (Serving k) step p q r c h apart)

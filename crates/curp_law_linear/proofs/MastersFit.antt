@@ -79,7 +79,7 @@ same_package : (s : LogState) (a b lo hi : ℕ) (o : a ≤ b) (p : lo ≤ hi) �
 same_package s a b lo hi o p x y = package_same _ _ (subst₂ (λ (l h : ℕ). (q : l ≤ h) → package_eq (package_of s l h q) (package_of s a b o) ≡ true) x y (λ q. package_self (package_of s a b o)) p)
 
 module _ {w : World} (known : Known w) (chain : Predecessors w) (routes : Routes w) (migrated : Migrated w) (ordered : Ordered w)
-    (c : PartConfig) (l : AdoptedLog w c) (new : List Entry) (front : IsPrefix l.its.log new) (ok : LogOk w c.part new)
+    (c : PartConfig) (l : AdoptedLog w c) (new : List Entry) (prefix : IsPrefix l.its.log new) (ok : LogOk w c.part new)
     (log : List Entry) (marks : List Mark) (rest : List Entry) (more : IsPrefix l.its.log log) where
   -- the next entry
   abbrev pub Next : Entry → Type 0
@@ -105,21 +105,21 @@ module _ {w : World} (known : Known w) (chain : Predecessors w) (routes : Routes
   -- no entry before it has its number
   once : (number : ℕ) (e : Entry) → Next e → moved_number e ≡ Some number → (j : ℕ) (x : Entry) → At log j x → moved_number x ≡ Some number → ⊥
   once number e is moves j x at too =
-      let rise : number < number = new_rise known chain routes migrated ordered c l new front ok j (length log) number number x e (at_within log j x at) (before e is j x at) (place e is) too moves in
+      let rise : number < number = new_rise known chain routes migrated ordered c l new prefix ok j (length log) number number x e (at_within log j x at) (before e is j x at) (place e is) too moves in
       omega (arith, rise)
 
   -- ---- an op
 
   abbrev pub op_push : NodeId → ℕ → Request → ℕ → PushOp
-  op_push node epoch r a = record { part = c.part; p = part_at known chain routes migrated ordered c l new front ok log; node = node; epoch = epoch; request = r; acknowledged = a }
+  op_push node epoch r a = record { part = c.part; p = part_at known chain routes migrated ordered c l new prefix ok log; node = node; epoch = epoch; request = r; acknowledged = a }
 
-  pub op_fits : (node : NodeId) (epoch : ℕ) (r : Request) (a : ℕ) → Next (Op r a) → PushOpFits (line_at known chain routes migrated ordered c l new front ok log marks) (op_push node epoch r a)
+  pub op_fits : (node : NodeId) (epoch : ℕ) (r : Request) (a : ℕ) → Next (Op r a) → PushOpFits (line_at known chain routes migrated ordered c l new prefix ok log marks) (op_push node epoch r a)
   op_fits node epoch r a is =
       let o = ok_here (Op r a) is in
       let f = and_parts (is_new (check (meaning (lo_of w c.part) (hi_of w c.part) log).table r.id)) _ (fits (Op r a) is) in
       let h = names_hash r.command (ordered.commands o.0.request.place r.id r.command o.0.request.invoked) in
       record {
-        here = here_at known chain routes migrated ordered c l new front ok log marks;
+        here = here_at known chain routes migrated ordered c l new prefix ok log marks;
         new = new_by_test _ f.0;
         owned = owns_touched (meaning (lo_of w c.part) (hi_of w c.part) log).owned r.command f.1;
         hash = h.0;
@@ -131,10 +131,10 @@ module _ {w : World} (known : Known w) (chain : Predecessors w) (routes : Routes
   -- ---- an expiry
 
   abbrev pub expire_push : ℕ → PushExpire
-  expire_push client = record { part = c.part; p = part_at known chain routes migrated ordered c l new front ok log; client = client }
+  expire_push client = record { part = c.part; p = part_at known chain routes migrated ordered c l new prefix ok log; client = client }
 
-  pub expire_fits : (client : ℕ) → PushExpireFits (line_at known chain routes migrated ordered c l new front ok log marks) (expire_push client)
-  expire_fits client = record { here = here_at known chain routes migrated ordered c l new front ok log marks }
+  pub expire_fits : (client : ℕ) → PushExpireFits (line_at known chain routes migrated ordered c l new prefix ok log marks) (expire_push client)
+  expire_fits client = record { here = here_at known chain routes migrated ordered c l new prefix ok log marks }
 
   -- ---- a take
 
@@ -142,10 +142,10 @@ module _ {w : World} (known : Known w) (chain : Predecessors w) (routes : Routes
   at_work m = record m { moved = None }
 
   abbrev pub take_push : Migration → PushTake
-  take_push m = record { part = c.part; p = part_at known chain routes migrated ordered c l new front ok log; m = at_work m; ordered = m.range.ordered }
+  take_push m = record { part = c.part; p = part_at known chain routes migrated ordered c l new prefix ok log; m = at_work m; ordered = m.range.ordered }
 
   -- no log has a give of its number
-  take_ungiven : (number : ℕ) (taken : Package) → Next (Take number taken) → Ungiven (line_at known chain routes migrated ordered c l new front ok log marks).parts number
+  take_ungiven : (number : ℕ) (taken : Package) → Next (Take number taken) → Ungiven (line_at known chain routes migrated ordered c l new prefix ok log marks).parts number
   take_ungiven number taken is k q here = false_from_ne_true (list_any (is_give number) q.log) (λ given. go given)
     where
       at : At new (length log) (Take number taken)
@@ -154,10 +154,10 @@ module _ {w : World} (known : Known w) (chain : Predecessors w) (routes : Routes
       go : list_any (is_give number) q.log ≡ true → ⊥
       go given =
           let g = found_give number q.log given in
-          elim (part_cases known chain routes migrated ordered c l new front ok log marks k q here) [
+          elim (part_cases known chain routes migrated ordered c l new prefix ok log marks k q here) [
             | inl other ↦
                 let s = standing known chain routes migrated ordered k q g.0 (Give number g.1) other.1 g.2 in
-                untaken known chain routes migrated ordered c l new front ok (length log) number taken high at g.1 (migrated.given s.0 s.1 g.0 number g.1 s.3)
+                untaken known chain routes migrated ordered c l new prefix ok (length log) number taken high at g.1 (migrated.given s.0 s.1 g.0 number g.1 s.3)
             | inr its ↦
                 let there : At log g.0 (Give number g.1) = subst (λ (p : Part). At p.log g.0 (Give number g.1)) (sym its.1) g.2 in
                 once number (Take number taken) is refl g.0 (Give number g.1) there refl
@@ -174,24 +174,24 @@ module _ {w : World} (known : Known w) (chain : Predecessors w) (routes : Routes
   -- a take that the machine can push
   pub record TakeMoves (number : ℕ) (taken : Package) : Type 0 where
     pub m : Migration
-    pub fit : PushTakeFits (line_at known chain routes migrated ordered c l new front ok log marks) (take_push m)
+    pub fit : PushTakeFits (line_at known chain routes migrated ordered c l new prefix ok log marks) (take_push m)
     pub same : Take m.number (taken_by (take_push m)) ≡ Take number taken
 
   pub take_moves : (number : ℕ) (taken : Package) → Next (Take number taken) → TakeMoves number taken
   take_moves number taken is =
-      let x = new_take known chain routes migrated ordered c l new front ok (length log) number taken high (place (Take number taken) is) in
+      let x = new_take known chain routes migrated ordered c l new prefix ok (length log) number taken high (place (Take number taken) is) in
       let o = take_of_work known chain routes migrated ordered c.part number taken x.0 x.1 x.2 (ok_here (Take number taken) is) in
       let s : LogState = meaning (lo_of w c.part) (hi_of w c.part) log in
       let f = and_parts (is_covered s.owned taken.lo taken.hi) _ (fits (Take number taken) is) in
       record {
         m = x.0;
         fit = record {
-          here = here_at known chain routes migrated ordered c l new front ok log marks;
+          here = here_at known chain routes migrated ordered c l new prefix ok log marks;
           in_work = ap moving_of x.1;
           its_source = sym o.its_source;
           covered = subst₂ (λ (a b : ℕ). is_covered s.owned a b ≡ true) o.lo o.hi f.0;
           first = subst (λ (n : ℕ). list_any (is_take n) log ≡ false) (sym x.2) (take_first number taken is);
-          ungiven = subst (Ungiven (line_at known chain routes migrated ordered c l new front ok log marks).parts) (sym x.2) (take_ungiven number taken is);
+          ungiven = subst (Ungiven (line_at known chain routes migrated ordered c l new prefix ok log marks).parts) (sym x.2) (take_ungiven number taken is);
         };
         same = ap₂ (λ (n : ℕ) (p : Package). Take n p) x.2
             (same_package s taken.lo taken.hi x.0.range.lo x.0.range.hi taken.ordered x.0.range.ordered o.lo o.hi
@@ -201,15 +201,15 @@ module _ {w : World} (known : Known w) (chain : Predecessors w) (routes : Routes
   -- ---- a give
 
   abbrev pub give_push : Migration → Package → PushGive
-  give_push m given = record { part = c.part; p = part_at known chain routes migrated ordered c l new front ok log; m = at_work m; brought = given }
+  give_push m given = record { part = c.part; p = part_at known chain routes migrated ordered c l new prefix ok log; m = at_work m; brought = given }
 
   -- a give that the machine can push
   pub record GiveMoves (number : ℕ) (given : Package) : Type 0 where
     pub m : Migration
-    pub fit : PushGiveFits (line_at known chain routes migrated ordered c l new front ok log marks) (give_push m given)
+    pub fit : PushGiveFits (line_at known chain routes migrated ordered c l new prefix ok log marks) (give_push m given)
     pub same : m.number ≡ number
 
-  module _ (number : ℕ) (given : Package) (is : Next (Give number given)) (b : Brought known chain routes migrated ordered c l new front ok number given) where
+  module _ (number : ℕ) (given : Package) (is : Next (Give number given)) (b : Brought known chain routes migrated ordered c l new prefix ok number given) where
     at : At new (length log) (Give number given)
     at = place (Give number given) is
 
@@ -223,16 +223,16 @@ module _ {w : World} (known : Known w) (chain : Predecessors w) (routes : Routes
     from_ok : LogOk w s.source.part taken_from
     from_ok = adopted_ok known chain routes migrated ordered s.source s.its
 
-    give_ungiven : Ungiven (line_at known chain routes migrated ordered c l new front ok log marks).parts number
+    give_ungiven : Ungiven (line_at known chain routes migrated ordered c l new prefix ok log marks).parts number
     give_ungiven k q here = false_from_ne_true (list_any (is_give number) q.log) (λ found. go found)
       where
         go : list_any (is_give number) q.log ≡ true → ⊥
         go found =
             let g = found_give number q.log found in
-            elim (part_cases known chain routes migrated ordered c l new front ok log marks k q here) [
+            elim (part_cases known chain routes migrated ordered c l new prefix ok log marks k q here) [
               | inl other ↦
                   let x = standing known chain routes migrated ordered k q g.0 (Give number g.1) other.1 g.2 in
-                  ungiven known chain routes migrated ordered c l new front ok (length log) number given high at x.0 x.1 g.0 g.1 x.3
+                  ungiven known chain routes migrated ordered c l new prefix ok (length log) number given high at x.0 x.1 g.0 g.1 x.3
               | inr its ↦
                   let there : At log g.0 (Give number g.1) = subst (λ (p : Part). At p.log g.0 (Give number g.1)) (sym its.1) g.2 in
                   once number (Give number given) is refl g.0 (Give number g.1) there refl
@@ -242,10 +242,10 @@ module _ {w : World} (known : Known w) (chain : Predecessors w) (routes : Routes
     last : number + 1 ≡ w.manager.next.migration
     last = ap (λ (n : ℕ). n + 1) (sym b.its_number) ∙ (routes.in_work b.m b.is).last
 
-    way : IsOnItsWay (line_at known chain routes migrated ordered c l new front ok log marks).parts (at_work b.m) given
+    way : IsOnItsWay (line_at known chain routes migrated ordered c l new prefix ok log marks).parts (at_work b.m) given
     way = record {
       source = part_of w s.source;
-      its_source = part_other known chain routes migrated ordered c l new front ok log marks b.m.source (part_of w s.source)
+      its_source = part_other known chain routes migrated ordered c l new prefix ok log marks b.m.source (part_of w s.source)
           (λ same. (routes.in_work b.m b.is).apart (same ∙ b.its_target))
           (subst (λ (n : ℕ). numbered (line_of w).parts n ≡ Some (part_of w s.source)) b.of.its_source (entry_part known s.source s.its.now));
       before = take s.index taken_from;
@@ -257,7 +257,7 @@ module _ {w : World} (known : Known w) (chain : Predecessors w) (routes : Routes
       its_package = take_package (lo_of w s.source.part) (hi_of w s.source.part) taken_from s.index number given from_ok.is_log s.stands;
       covered = λ h inside. covered_before known chain routes migrated ordered s.source s.its s.index number given s.stands last h (within h inside);
       quiet = λ h inside. quiet_behind known chain routes migrated ordered s.source s.its s.index number given s.stands last h (within h inside);
-      ungiven = subst (Ungiven (line_at known chain routes migrated ordered c l new front ok log marks).parts) (sym b.its_number) give_ungiven;
+      ungiven = subst (Ungiven (line_at known chain routes migrated ordered c l new prefix ok log marks).parts) (sym b.its_number) give_ungiven;
     }
       where
         within : (h : ℕ) → is_in b.m.range.lo b.m.range.hi h ≡ true → is_in given.lo given.hi h ≡ true
@@ -274,7 +274,7 @@ module _ {w : World} (known : Known w) (chain : Predecessors w) (routes : Routes
     carried_moves = record {
       m = b.m;
       fit = record {
-        here = here_at known chain routes migrated ordered c l new front ok log marks;
+        here = here_at known chain routes migrated ordered c l new prefix ok log marks;
         in_work = ap moving_of b.is;
         its_target = sym b.its_target;
         other = (routes.in_work b.m b.is).apart;
@@ -285,4 +285,4 @@ module _ {w : World} (known : Known w) (chain : Predecessors w) (routes : Routes
     }
 
   pub give_moves : (number : ℕ) (given : Package) → Next (Give number given) → GiveMoves number given
-  give_moves number given is = carried_moves number given is (brought known chain routes migrated ordered c l new front ok (length log) number given high (place (Give number given) is))
+  give_moves number given is = carried_moves number given is (brought known chain routes migrated ordered c l new prefix ok (length log) number given high (place (Give number given) is))

@@ -23,7 +23,7 @@ use Rattle.curp_law_linear.specs.Ordered.{MigrationsRise, Ordered}
 use Rattle.curp_law_linear.proofs.Parts.{entry_part, gives_move, part_entry, plain, rise_alone, takes_move}
 use Rattle.curp_law_logs.specs.Gives.{GivesFit}
 use Rattle.curp_law_logs.specs.Migrations.{give_number, take_number}
-use Rattle.curp_law_logs.proofs.Gives.{gives_fit_front}
+use Rattle.curp_law_logs.proofs.Gives.{gives_fit_prefix}
 use Rattle.curp_law_logs.proofs.Logs.{log_prefix}
 use Rattle.curp_facts.specs.Predecessors.{Predecessors}
 use Rattle.curp_law_pairs.proofs.Logs.{range_ordered}
@@ -63,7 +63,7 @@ leads_on r s t a b = record {
 }
 
 module _ {w : World} (known : Known w) (chain : Predecessors w) (routes : Routes w) (migrated : Migrated w) (ordered : Ordered w)
-    (c : PartConfig) (l : AdoptedLog w c) (new : List Entry) (front : IsPrefix l.its.log new) (ok : LogOk w c.part new) where
+    (c : PartConfig) (l : AdoptedLog w c) (new : List Entry) (prefix : IsPrefix l.its.log new) (ok : LogOk w c.part new) where
   -- the partition with that log
   abbrev pub part_at : List Entry → Part
   part_at log = record (part_of w c) { log = log }
@@ -93,11 +93,11 @@ module _ {w : World} (known : Known w) (chain : Predecessors w) (routes : Routes
   -- a beginning of the new log is a log by itself
   plain_at : (log : List Entry) → IsPrefix log new → IsPlainLog (part_at log)
   plain_at log p =
-      let rise : MigrationsRise log = (λ i j m n d e low at to x y. new_rise known chain routes migrated ordered c l new front ok i j m n d e low (prefix_at p i d at) (prefix_at p j e to) x y) in
+      let rise : MigrationsRise log = (λ i j m n d e low at to x y. new_rise known chain routes migrated ordered c l new prefix ok i j m n d e low (prefix_at p i d at) (prefix_at p j e to) x y) in
       record {
         ordered = range_ordered w c.part;
         is_log = log_prefix (lo_of w c.part) (hi_of w c.part) log new p ok.is_log;
-        gives_fit = gives_fit_front log p.rest (log_opening (lo_of w c.part) (hi_of w c.part)) 0 (subst (GivesFit (log_opening (lo_of w c.part) (hi_of w c.part)) 0) (sym p.is) (new_fit known chain routes migrated ordered c l new front ok));
+        gives_fit = gives_fit_prefix log p.rest (log_opening (lo_of w c.part) (hi_of w c.part)) 0 (subst (GivesFit (log_opening (lo_of w c.part) (hi_of w c.part)) 0) (sym p.is) (new_fit known chain routes migrated ordered c l new prefix ok));
         takes = rise_alone take_number takes_move log rise;
         gives = rise_alone give_number gives_move log rise;
       }

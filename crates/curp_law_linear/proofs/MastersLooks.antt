@@ -54,18 +54,18 @@ module _ (m k : MasterState) (low : Each (λ (x : Captured). x.number ≤ m.capt
       above = let number = t.its.number in grind (arith, nat_tests)
 
 module _ {w : World} (known : Known w) (chain : Predecessors w) (routes : Routes w) (migrated : Migrated w) (ordered : Ordered w)
-    (c : PartConfig) (l : AdoptedLog w c) (new : List Entry) (front : IsPrefix l.its.log new) (ok : LogOk w c.part new) (node : NodeId) (epoch : ℕ) where
+    (c : PartConfig) (l : AdoptedLog w c) (new : List Entry) (prefix : IsPrefix l.its.log new) (ok : LogOk w c.part new) (node : NodeId) (epoch : ℕ) where
   abbrev at : List Mark → LineState
-  at marks = line_at known chain routes migrated ordered c l new front ok new marks
+  at marks = line_at known chain routes migrated ordered c l new prefix ok new marks
 
   -- the look that a capture is
   abbrev pub look_of : Captured → Look
-  look_of x = record { part = c.part; p = part_at known chain routes migrated ordered c l new front ok new; node = node; epoch = epoch; capture = x.number; id = x.id; command = x.command }
+  look_of x = record { part = c.part; p = part_at known chain routes migrated ordered c l new prefix ok new; node = node; epoch = epoch; capture = x.number; id = x.id; command = x.command }
 
   module _ (m k : MasterState) (lo : m.lo ≡ lo_of w c.part) (hi : m.hi ≡ hi_of w c.part) (log : k.log ≡ new) where
     look_fits : (t : TakesOne m k) → CapturedOk w k t.c → (marks : List Mark) → LookFits (at marks) (look_of t.c)
     look_fits t captured marks = record {
-      here = here_at known chain routes migrated ordered c l new front ok new marks;
+      here = here_at known chain routes migrated ordered c l new prefix ok new marks;
       owned = λ h touched. owns_touched (meaning (lo_of w c.part) (hi_of w c.part) new).owned t.c.command owned h touched;
       reads = captured.reads;
       was_invoked = record { event = captured.place; stands = captured.invoked };
@@ -82,6 +82,6 @@ module _ {w : World} (known : Known w) (chain : Predecessors w) (routes : Routes
         (ap at (sym (append-nil marks) ∙ ap (λ (xs : List Captured). marks ++ map (capture_mark node c.part epoch) xs) (sym (none_new m k low t))))
     look_all (OneRead t) low all marks =
         let captured : CapturedOk w k t.c = Each-at (CapturedOk w k) k.captures all (length m.captures) t.c (subst (λ (xs : List Captured). At xs (length m.captures) t.c) (sym t.captures) (at_push m.captures t.c (length m.captures) refl)) in
-        leads_first (at marks) _ (Looks (look_of t.c)) tt (look_fits t captured marks) (logs_at known chain routes migrated ordered c l new front ok new marks (prefix_self new))
+        leads_first (at marks) _ (Looks (look_of t.c)) tt (look_fits t captured marks) (logs_at known chain routes migrated ordered c l new prefix ok new marks (prefix_self new))
         (leads_none _ _ (ap at (ap (λ (n : ℕ). marks ++ looked node c.part epoch t.c.number n t.c.id t.c.command ∷ []) (sym (t.its.long ∙ ap length (sym t.log ∙ log)))
         ∙ ap (λ (xs : List Captured). marks ++ map (capture_mark node c.part epoch) xs) (sym (one_new m k low t)))))

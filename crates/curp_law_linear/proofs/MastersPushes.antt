@@ -22,9 +22,9 @@ use Rattle.curp_facts.specs.Migrated.{Migrated}
 use Rattle.curp_facts.specs.Routes.{Routes}
 
 module _ {w : World} (known : Known w) (chain : Predecessors w) (routes : Routes w) (migrated : Migrated w) (ordered : Ordered w)
-    (c : PartConfig) (l : AdoptedLog w c) (new : List Entry) (front : IsPrefix l.its.log new) (ok : LogOk w c.part new) (node : NodeId) (epoch : ℕ) where
+    (c : PartConfig) (l : AdoptedLog w c) (new : List Entry) (prefix : IsPrefix l.its.log new) (ok : LogOk w c.part new) (node : NodeId) (epoch : ℕ) where
   abbrev at : List Entry → List Mark → LineState
-  at log marks = line_at known chain routes migrated ordered c l new front ok log marks
+  at log marks = line_at known chain routes migrated ordered c l new prefix ok log marks
 
   -- the marks of entries behind a log
   abbrev behind : List Entry → List Entry → List Mark
@@ -32,11 +32,11 @@ module _ {w : World} (known : Known w) (chain : Predecessors w) (routes : Routes
 
   -- one entry first, by a move that leads to it
   step : (log : List Entry) (marks more : List Mark) (e : Entry) (rest : List Entry) → log ++ e ∷ rest ≡ new → (m : LineMove) → NoAdoption m → Fits (at log marks) m
-      → after (at log marks) m ≡ record (at log marks) { parts = pushed (at log marks).parts c.part (part_at known chain routes migrated ordered c l new front ok log) e; marks = more }
+      → after (at log marks) m ≡ record (at log marks) { parts = pushed (at log marks).parts c.part (part_at known chain routes migrated ordered c l new prefix ok log) e; marks = more }
       → (t : LineState) → Leads (at (log ++ e ∷ []) more) t → Leads (at log marks) t
   step log marks more e rest is m steady fits leads t on =
-      leads_first (at log marks) t m steady fits (logs_at known chain routes migrated ordered c l new front ok log marks (record { rest = e ∷ rest; is = is }))
-      (subst (λ (s : LineState). Leads s t) (sym (leads ∙ one_pushed known chain routes migrated ordered c l new front ok log marks more e)) on)
+      leads_first (at log marks) t m steady fits (logs_at known chain routes migrated ordered c l new prefix ok log marks (record { rest = e ∷ rest; is = is }))
+      (subst (λ (s : LineState). Leads s t) (sym (leads ∙ one_pushed known chain routes migrated ordered c l new prefix ok log marks more e)) on)
 
   -- all that stands behind a beginning of the new log
   pub push_all : (es log : List Entry) (marks : List Mark) → log ++ es ≡ new → IsPrefix l.its.log log → Leads (at log marks) (at new (marks ++ behind log es))
@@ -53,24 +53,24 @@ module _ {w : World} (known : Known w) (chain : Predecessors w) (routes : Routes
       go (Op r a) is more_on =
           let mine : Mark = executed node c.part epoch (length log) r.id r.command in
           let t = more_on (Op r a) is (marks ++ mine ∷ []) in
-          step log marks (marks ++ mine ∷ []) (Op r a) es is (OpPush (op_push known chain routes migrated ordered c l new front ok log marks es more node epoch r a)) tt
-          (op_fits known chain routes migrated ordered c l new front ok log marks es more node epoch r a is) refl _
+          step log marks (marks ++ mine ∷ []) (Op r a) es is (OpPush (op_push known chain routes migrated ordered c l new prefix ok log marks es more node epoch r a)) tt
+          (op_fits known chain routes migrated ordered c l new prefix ok log marks es more node epoch r a is) refl _
           (subst (λ (ms : List Mark). Leads (at (log ++ Op r a ∷ []) (marks ++ mine ∷ [])) (at new ms))
           (append_assoc marks (mine ∷ []) (behind (log ++ Op r a ∷ []) es) ∙ ap (λ (n : ℕ). marks ++ mine ∷ op_marks node c.part epoch n es) (on (Op r a))) t)
       go (Take number taken) is more_on =
-          let k = take_moves known chain routes migrated ordered c l new front ok log marks es more number taken is in
+          let k = take_moves known chain routes migrated ordered c l new prefix ok log marks es more number taken is in
           let t = more_on (Take number taken) is marks in
-          step log marks marks (Take number taken) es is (TakePush (take_push known chain routes migrated ordered c l new front ok log marks es more k.m)) tt k.fit
-          (ap (λ (x : Entry). record (at log marks) { parts = pushed (at log marks).parts c.part (part_at known chain routes migrated ordered c l new front ok log) x }) k.same) _
+          step log marks marks (Take number taken) es is (TakePush (take_push known chain routes migrated ordered c l new prefix ok log marks es more k.m)) tt k.fit
+          (ap (λ (x : Entry). record (at log marks) { parts = pushed (at log marks).parts c.part (part_at known chain routes migrated ordered c l new prefix ok log) x }) k.same) _
           (subst (λ (n : ℕ). Leads (at (log ++ Take number taken ∷ []) marks) (at new (marks ++ op_marks node c.part epoch n es))) (on (Take number taken)) t)
       go (Give number given) is more_on =
-          let k = give_moves known chain routes migrated ordered c l new front ok log marks es more number given is in
+          let k = give_moves known chain routes migrated ordered c l new prefix ok log marks es more number given is in
           let t = more_on (Give number given) is marks in
-          step log marks marks (Give number given) es is (GivePush (give_push known chain routes migrated ordered c l new front ok log marks es more k.m given)) tt k.fit
-          (ap (λ (x : ℕ). record (at log marks) { parts = pushed (at log marks).parts c.part (part_at known chain routes migrated ordered c l new front ok log) (Give x given) }) k.same) _
+          step log marks marks (Give number given) es is (GivePush (give_push known chain routes migrated ordered c l new prefix ok log marks es more k.m given)) tt k.fit
+          (ap (λ (x : ℕ). record (at log marks) { parts = pushed (at log marks).parts c.part (part_at known chain routes migrated ordered c l new prefix ok log) (Give x given) }) k.same) _
           (subst (λ (n : ℕ). Leads (at (log ++ Give number given ∷ []) marks) (at new (marks ++ op_marks node c.part epoch n es))) (on (Give number given)) t)
       go (Expire client) is more_on =
           let t = more_on (Expire client) is marks in
-          step log marks marks (Expire client) es is (ExpirePush (expire_push known chain routes migrated ordered c l new front ok log marks es more client)) tt
-          (expire_fits known chain routes migrated ordered c l new front ok log marks es more client) refl _
+          step log marks marks (Expire client) es is (ExpirePush (expire_push known chain routes migrated ordered c l new prefix ok log marks es more client)) tt
+          (expire_fits known chain routes migrated ordered c l new prefix ok log marks es more client) refl _
           (subst (λ (n : ℕ). Leads (at (log ++ Expire client ∷ []) marks) (at new (marks ++ op_marks node c.part epoch n es))) (on (Expire client)) t)

@@ -119,7 +119,7 @@ module _ {w : World} (known : Known w) (chain : Predecessors w) (routes : Routes
   pub give_given : (part number : ℕ) (given : Package) → EntryOk w part (Give number given) → (1 ≤ number) × (number < w.manager.next.migration)
   give_given part number given ok = routes.gives_given part (record { migration = number; «package» = given }) ok.0
 
-  module _ (c : PartConfig) (l : AdoptedLog w c) (new : List Entry) (front : IsPrefix l.its.log new) (ok : LogOk w c.part new) where
+  module _ (c : PartConfig) (l : AdoptedLog w c) (new : List Entry) (prefix : IsPrefix l.its.log new) (ok : LogOk w c.part new) where
     entry_ok : (i : ℕ) (e : Entry) → At new i e → EntryOk w c.part e
     entry_ok i e at = Each-at (EntryOk w c.part) new ok.entries i e at
 
@@ -127,7 +127,7 @@ module _ {w : World} (known : Known w) (chain : Predecessors w) (routes : Routes
     pub stood : (d : PartConfig) (k : AdoptedLog w d) → d.part ≡ c.part → (j i : ℕ) (e : Entry) → length l.its.log ≤ i → At k.its.log j e → (j < i) × At new j e
     stood d k same j i e high at =
         let here : At l.its.log j e = subst (λ (x : Logged). At x.log j e) (one_adopted c d l k same) at in
-        (omega (arith, high, at_within l.its.log j e here), prefix_at front j e here)
+        (omega (arith, high, at_within l.its.log j e here), prefix_at prefix j e here)
 
     -- a take of its number stood nowhere
     pub untaken : (i number : ℕ) (taken : Package) → length l.its.log ≤ i → At new i (Take number taken) → (p : Package) → TakeStored w number p → ⊥
@@ -182,7 +182,7 @@ module _ {w : World} (known : Known w) (chain : Predecessors w) (routes : Routes
     -- takes and gives rise together
     pub new_rise : MigrationsRise new
     new_rise j k m n d e low at to p q = elim (cases_lt k (length l.its.log)) [
-      | inl in_old ↦ (ordered.logs c l).rise j k m n d e low (prefix_back front j d (omega (arith, low, in_old)) at) (prefix_back front k e in_old to) p q
+      | inl in_old ↦ (ordered.logs c l).rise j k m n d e low (prefix_back prefix j d (omega (arith, low, in_old)) at) (prefix_back prefix k e in_old to) p q
       | inr in_new ↦ go d e at to p q (in_new)
     ]
       where
@@ -261,9 +261,9 @@ module _ {w : World} (known : Known w) (chain : Predecessors w) (routes : Routes
 
     -- so each give of the new log fits
     pub new_fit : GivesFit (log_opening (lo_of w c.part) (hi_of w c.part)) 0 new
-    new_fit = subst (GivesFit (log_opening lo hi) 0) front.is
-        (gives_fit_append l.its.log front.rest (log_opening lo hi) 0 (length l.its.log) (omega arith) (ordered.logs c l).fit
-        (gives_fit_from front.rest (meaning lo hi l.its.log) (length l.its.log) fits))
+    new_fit = subst (GivesFit (log_opening lo hi) 0) prefix.is
+        (gives_fit_append l.its.log prefix.rest (log_opening lo hi) 0 (length l.its.log) (omega arith) (ordered.logs c l).fit
+        (gives_fit_from prefix.rest (meaning lo hi l.its.log) (length l.its.log) fits))
       where
         lo : ℕ
         lo = lo_of w c.part
@@ -271,16 +271,16 @@ module _ {w : World} (known : Known w) (chain : Predecessors w) (routes : Routes
         hi : ℕ
         hi = hi_of w c.part
 
-        place : (j : ℕ) (e : Entry) → At front.rest j e → At new (length l.its.log + j) e
-        place j e at = subst (λ (es : List Entry). At es (length l.its.log + j) e) front.is (at_append_right l.its.log front.rest j (length l.its.log + j) e refl at)
+        place : (j : ℕ) (e : Entry) → At prefix.rest j e → At new (length l.its.log + j) e
+        place j e at = subst (λ (es : List Entry). At es (length l.its.log + j) e) prefix.is (at_append_right l.its.log prefix.rest j (length l.its.log + j) e refl at)
 
         -- before it nothing new moves a range
-        still : (i number : ℕ) (p : Package) → At front.rest i (Give number p) → MovesNothing (take i front.rest)
+        still : (i number : ℕ) (p : Package) → At prefix.rest i (Give number p) → MovesNothing (take i prefix.rest)
         still i number p at k e here =
             go e (place k e t.1)
           where
-            t : (k < i) × At front.rest k e
-            t = at_take i front.rest k e here
+            t : (k < i) × At prefix.rest k e
+            t = at_take i prefix.rest k e here
 
             go : (e : Entry) → At new (length l.its.log + k) e → (take_number e ≡ None) × (give_number e ≡ None)
             go (Op r a) here = (refl, refl)
@@ -293,7 +293,7 @@ module _ {w : World} (known : Known w) (chain : Predecessors w) (routes : Routes
                 let rise : other < number = ok.gives (length l.its.log + k) (length l.its.log + i) other number given p (omega (arith, t.0)) here (place i (Give number p) at) in
                 absurd (omega (arith, same, rise))
 
-        fits : (i number : ℕ) (p : Package) → At front.rest i (Give number p) → GiveFits (after_entries (meaning lo hi l.its.log) (length l.its.log) (take i front.rest)) p
+        fits : (i number : ℕ) (p : Package) → At prefix.rest i (Give number p) → GiveFits (after_entries (meaning lo hi l.its.log) (length l.its.log) (take i prefix.rest)) p
         fits i number p at =
             let high : length l.its.log ≤ length l.its.log + i = omega arith in
             let here = place i (Give number p) at in
@@ -302,8 +302,8 @@ module _ {w : World} (known : Known w) (chain : Predecessors w) (routes : Routes
             let before : LogState = meaning (lo_of w s.source.part) (hi_of w s.source.part) (take s.index s.its.its.log) in
             let its : p ≡ package_of before p.lo p.hi p.ordered
             = take_package (lo_of w s.source.part) (hi_of w s.source.part) s.its.its.log s.index number p (adopted_ok s.source s.its).is_log s.stands in
-            let owned : (after_entries (meaning lo hi l.its.log) (length l.its.log) (take i front.rest)).owned ≡ (meaning lo hi l.its.log).owned
-            = ap (λ (x : LogState). x.owned) (sym (meaning_append lo hi l.its.log (take i front.rest))) ∙ owned_more lo hi l.its.log (take i front.rest) (still i number p at) in
+            let owned : (after_entries (meaning lo hi l.its.log) (length l.its.log) (take i prefix.rest)).owned ≡ (meaning lo hi l.its.log).owned
+            = ap (λ (x : LogState). x.owned) (sym (meaning_append lo hi l.its.log (take i prefix.rest))) ∙ owned_more lo hi l.its.log (take i prefix.rest) (still i number p at) in
             record {
               ascend = subst (λ (q : Package). PairsAscend q.pairs) (sym its) (package_ascends before p.lo p.hi p.ordered);
               within = subst (λ (q : Package). PairsWithin p.lo p.hi q.pairs) (sym its) (package_within before p.lo p.hi p.ordered);

@@ -372,7 +372,7 @@ module _ {w v : World} (known : Known w) (chain : Predecessors w) (ordered : Ord
 
       answer : left_answer (line_of w) late ≡ quick_of.answer
       answer =
-          ap (λ (l : Left). answer_after l.front.lo l.front.hi (l.front.log ++ l.back) r.command) left_log
+          ap (λ (l : Left). answer_after l.prefix.lo l.prefix.hi (l.prefix.log ++ l.back) r.command) left_log
           ∙ ap (λ (es : List Entry). answer_after x.lo x.hi es r.command) joined ∙ its_answer
 
       put : v.marks ≡ put_before cut.cut.place mark_of w.marks

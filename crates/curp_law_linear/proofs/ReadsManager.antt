@@ -206,8 +206,8 @@ module _ {w v : World} (known : Known w) (now : Known v) (chain : Predecessors w
 
       within : long ≤ length d.p.log
       within =
-          let front = prefix_length (replay_prefix d.s.order.lo d.s.order.hi (frozen_requests cut_replay.sources.x) cut_replay.sources.b.log) in
-          omega (arith, short, cut_replay.its_cut, front, ap (λ (es : List Entry). length es) cut_replay.is)
+          let prefix = prefix_length (replay_prefix d.s.order.lo d.s.order.hi (frozen_requests cut_replay.sources.x) cut_replay.sources.b.log) in
+          omega (arith, short, cut_replay.its_cut, prefix, ap (λ (es : List Entry). length es) cut_replay.is)
 
       many : Each (HasMany w long) d.a.order.backups
       many = subst (λ (o : Recover). Each (HasMany w long) o.backups) same_order
@@ -238,7 +238,7 @@ module _ {w v : World} (known : Known w) (now : Known v) (chain : Predecessors w
     | inl none ↦ omega (arith, cut_replay.its_cut, ap (λ (es : List Entry). length es) none)
     | inr g ↦
         let is : (log_of w d.a.order.part d.before.master).log ≡ g.its.log = ap entries_at g.its_log.is.its_state ∙ ap logged_entries g.its_log.its_log in
-        omega (arith, cut_replay.its_cut, prefix_length g.front, ap (λ (es : List Entry). length es) is)
+        omega (arith, cut_replay.its_cut, prefix_length g.prefix, ap (λ (es : List Entry). length es) is)
   ]
 
   -- and the new master has stored it

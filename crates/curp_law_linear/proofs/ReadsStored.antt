@@ -51,8 +51,8 @@ module _ {w : World} (known : Known w) (chain : Predecessors w) where
       let here : c.part ≡ k.part = same ∙ sym h.its_part in
       let top = known.names.top c now in
       let on = reach_along known.names known.inv chain k h.adopted its.its its.its_log long its.low its.reach (lists_of_part c) top.was here (top.versions k h.adopted (sym here)) in
-      let front : IsPrefix (take long its.its.log) b.log = Each-at (λ node. (b : BackupState) → IsBackup w node b → IsPrefix (take long its.its.log) b.log) c.backups on.on_all named.place backup named.stands b is in
-      omega (arith, prefix_length front, length-take-le long its.its.log its.low)
+      let prefix : IsPrefix (take long its.its.log) b.log = Each-at (λ node. (b : BackupState) → IsBackup w node b → IsPrefix (take long its.its.log) b.log) c.backups on.on_all named.place backup named.stands b is in
+      omega (arith, prefix_length prefix, length-take-le long its.its.log its.low)
 
   -- and so it is with what the present master has stored
   pub stored_present : (c : PartConfig) → IsAdoptedNow w c → (long : ℕ) → IsStored w c.master 0 long → AllStored w c long

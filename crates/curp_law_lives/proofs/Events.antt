@@ -33,46 +33,46 @@ where_err (Err e) P p = p
 
 module _ {N : Type 0} (machine : N → Input → Moved N) (title : List ℕ) (opening : N) where
   -- a journal was opened, and the disk reads as before
-  pub opens : (content now : List ℕ) (gate : ℕ) (stand : Standing N) (answered : List Answered) → IsOpened machine content title opening gate stand → now ≡ content → Happens machine title opening Opening (down content answered) (running now stand answered)
-  opens content now gate stand answered o same = record {
+  pub opens : (content now : List ℕ) (commit : ℕ) (stand : Standing N) (answered : List Answered) → IsOpened machine content title opening commit stand → now ≡ content → Happens machine title opening Opening (down content answered) (running now stand answered)
+  opens content now commit stand answered o same = record {
     is_down = refl;
     held = all_of o.batches;
-    there = record { batches = o.batches; gate = gate; all = refl; reads = o.reads };
+    there = record { batches = o.batches; commit = commit; all = refl; reads = o.reads };
     becomes = ap (λ (l : List ℕ). running l stand answered) same ∙ ap (λ (s : Standing N). running content s answered) o.stand_is;
   }
 
   module _ {D : Type 0} (seen : D → List ℕ) (may_leave : D → List ℕ → Type 0) where
     abbrev Settled : D → Standing N → ℕ → List Arrived → Type 0
-    Settled disk stand gate held = IsSettled machine seen may_leave disk stand gate title opening held
+    Settled disk stand commit held = IsSettled machine seen may_leave disk stand commit title opening held
 
-    holds : (disk : D) (stand : Standing N) (gate : ℕ) (held : List Arrived) → Settled disk stand gate held → HoldsJournal (seen disk) title held
-    holds disk stand gate held s = record { batches = s.batches; gate = gate; all = s.all; reads = s.reads }
+    holds : (disk : D) (stand : Standing N) (commit : ℕ) (held : List Arrived) → Settled disk stand commit held → HoldsJournal (seen disk) title held
+    holds disk stand commit held s = record { batches = s.batches; commit = commit; all = s.all; reads = s.reads }
 
-    pub answers : (old new : D) (stand next : Standing N) (gate behind : ℕ) (held batch : List Arrived) (answered told : List Answered) → Settled old stand gate held → Settled new next behind (held ++ taken machine stand batch)
+    pub answers : (old new : D) (stand next : Standing N) (commit behind : ℕ) (held batch : List Arrived) (answered told : List Answered) → Settled old stand commit held → Settled new next behind (held ++ taken machine stand batch)
         → next ≡ after machine stand batch → told ≡ answers_of machine stand batch
         → Happens machine title opening (Answers batch) (running (seen old) stand answered) (running (seen new) next (answered ++ told))
-    answers old new stand next gate behind held batch answered told s t next_is told_is = record {
+    answers old new stand next commit behind held batch answered told s t next_is told_is = record {
       stand = stand;
       runs = refl;
       held = held;
-      there = holds old stand gate held s;
+      there = holds old stand commit held s;
       content = seen new;
       kept = holds new next behind (held ++ taken machine stand batch) t;
       becomes = ap (λ (u : Standing N). running (seen new) u (answered ++ told)) next_is ∙ ap (λ (l : List Answered). running (seen new) (after machine stand batch) (answered ++ l)) told_is;
     }
 
-    pub cut_off : (old : D) (stand : Standing N) (gate : ℕ) (held batch : List Arrived) (answered : List Answered) (left : List ℕ) → Settled old stand gate held → IsBeforeOrAfter title held (taken machine stand batch) left
+    pub cut_off : (old : D) (stand : Standing N) (commit : ℕ) (held batch : List Arrived) (answered : List Answered) (left : List ℕ) → Settled old stand commit held → IsBeforeOrAfter title held (taken machine stand batch) left
         → Happens machine title opening (CutOff batch) (running (seen old) stand answered) (down left answered)
-    cut_off old stand gate held batch answered left s kept = record {
+    cut_off old stand commit held batch answered left s kept = record {
       stand = stand;
       runs = refl;
       held = held;
-      there = holds old stand gate held s;
+      there = holds old stand commit held s;
       content = left;
       kept = kept;
       becomes = refl;
     }
 
-    pub crashes : (disk : D) (stand : Standing N) (gate : ℕ) (held : List Arrived) (answered : List Answered) (left : List ℕ) → Settled disk stand gate held → may_leave disk left
+    pub crashes : (disk : D) (stand : Standing N) (commit : ℕ) (held : List Arrived) (answered : List Answered) (left : List ℕ) → Settled disk stand commit held → may_leave disk left
         → Happens machine title opening Crash (running (seen disk) stand answered) (down left answered)
-    crashes disk stand gate held answered left s leaves = ap (λ (l : List ℕ). down l answered) (s.durable left leaves)
+    crashes disk stand commit held answered left s leaves = ap (λ (l : List ℕ). down l answered) (s.durable left leaves)

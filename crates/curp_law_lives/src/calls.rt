@@ -30,7 +30,7 @@ pub fn opening_happens<N: Core + Drop, D: Disk>(
         → IfOk result (λ d. Happens N.machine title.now node Opening (down (D.seen disk) answered)
         (running (D.seen d.disk) d.stand answered)) }
     ensures settled { (inputs : List Arrived) → D.tells ≡ true → HoldsJournal (D.seen disk) title.now inputs
-        → IfOk result (λ d. IsSettled N.machine D.seen D.may_leave d.disk d.stand d.gate title.now node inputs) }
+        → IfOk result (λ d. IsSettled N.machine D.seen D.may_leave d.disk d.stand d.commit title.now node inputs) }
     ensures err { D.tells ≡ true → IfErr result (λ f. OpensNot (D.seen disk) title.now f.error) }
     ensures cause { IfErr result (λ f. f.error ≡ OpenError.DiskFault → Rose (D.faults disk) (D.faults f.disk)) }
 {
@@ -45,23 +45,23 @@ pub fn batch_happens<N: Core + Drop, D: Disk>(
 ) -> Result<Vec<Answered>, DurableError>
     ensures happens { (title : List ℕ) (opening : N) (held : List Arrived) (answered : List Answered)
         → D.tells ≡ true
-        → IsSettled N.machine D.seen D.may_leave durable.old.disk durable.old.stand durable.old.gate title opening held
+        → IsSettled N.machine D.seen D.may_leave durable.old.disk durable.old.stand durable.old.commit title opening held
         → IfOk result (λ answers. Happens N.machine title opening (lives.Answers inputs.items)
         (running (D.seen durable.old.disk) durable.old.stand answered)
         (running (D.seen durable.new.disk) durable.new.stand (answered ++ answers.items))) }
     ensures settled { (title : List ℕ) (opening : N) (held : List Arrived) → D.tells ≡ true → IsOk result
-        → IsSettled N.machine D.seen D.may_leave durable.old.disk durable.old.stand durable.old.gate title opening held
-        → IsSettled N.machine D.seen D.may_leave durable.new.disk durable.new.stand durable.new.gate title opening
+        → IsSettled N.machine D.seen D.may_leave durable.old.disk durable.old.stand durable.old.commit title opening held
+        → IsSettled N.machine D.seen D.may_leave durable.new.disk durable.new.stand durable.new.commit title opening
         (held ++ taken N.machine durable.old.stand inputs.items) }
     ensures cut_off { (title : List ℕ) (opening : N) (held : List Arrived) (answered : List Answered) (left : List ℕ)
         → D.tells ≡ true → durable.old.spent ≡ false
-        → IsSettled N.machine D.seen D.may_leave durable.old.disk durable.old.stand durable.old.gate title opening held
+        → IsSettled N.machine D.seen D.may_leave durable.old.disk durable.old.stand durable.old.commit title opening held
         → D.left_since durable.new.disk (D.moment durable.old.disk) left
         → Happens N.machine title opening (lives.CutOff inputs.items)
         (running (D.seen durable.old.disk) durable.old.stand answered) (down left answered) }
     ensures gives_up { (title : List ℕ) (opening : N) (held : List Arrived) (answered : List Answered)
         → D.tells ≡ true → durable.old.spent ≡ false
-        → IsSettled N.machine D.seen D.may_leave durable.old.disk durable.old.stand durable.old.gate title opening held
+        → IsSettled N.machine D.seen D.may_leave durable.old.disk durable.old.stand durable.old.commit title opening held
         → OnErr result (Happens N.machine title opening (lives.CutOff inputs.items)
         (running (D.seen durable.old.disk) durable.old.stand answered) (down (D.seen durable.new.disk) answered)) }
     ensures err { IfErr result (RefusesBatch D.faults durable.old durable.new inputs.items) }
@@ -72,7 +72,7 @@ pub fn batch_happens<N: Core + Drop, D: Disk>(
 /// What a crash between two calls leaves is the journal with all that was answered: a law, with no code.
 pub fn crash_happens<N: Core, D: Disk>(durable: &Durable<N, D>)
     ensures { (title : List ℕ) (opening : N) (held : List Arrived) (answered : List Answered) (left : List ℕ)
-        → IsSettled N.machine D.seen D.may_leave durable.now.disk durable.now.stand durable.now.gate title opening held
+        → IsSettled N.machine D.seen D.may_leave durable.now.disk durable.now.stand durable.now.commit title opening held
         → D.may_leave durable.now.disk left
         → Happens N.machine title opening Crash
         (running (D.seen durable.now.disk) durable.now.stand answered) (down left answered) }

@@ -12,19 +12,19 @@ use Rattle.curp_law_logs.proofs.Stores.{range_ascends, range_within}
 -- ---- gives that fit
 
 pub gives_fit_append : (xs ys : List Entry) (s : LogState) (k n : ℕ) → n ≡ k + length xs → GivesFit s k xs → GivesFit (after_entries s k xs) n ys → GivesFit s k (xs ++ ys)
-gives_fit_append [] ys s k n e front back = let same : n ≡ k = omega arith in subst (λ (m : ℕ). GivesFit s m ys) same back
-gives_fit_append (Op r acknowledged ∷ xs) ys s k n e front back = gives_fit_append xs ys (after_entry s k (Op r acknowledged)) (k + 1) n (omega arith) front back
-gives_fit_append (Take migration p ∷ xs) ys s k n e front back = gives_fit_append xs ys (after_entry s k (Take migration p)) (k + 1) n (omega arith) front back
-gives_fit_append (Give migration p ∷ xs) ys s k n e front back = (front.0, gives_fit_append xs ys (after_entry s k (Give migration p)) (k + 1) n (omega arith) front.1 back)
-gives_fit_append (Expire client ∷ xs) ys s k n e front back = gives_fit_append xs ys (after_entry s k (Expire client)) (k + 1) n (omega arith) front back
+gives_fit_append [] ys s k n e prefix back = let same : n ≡ k = omega arith in subst (λ (m : ℕ). GivesFit s m ys) same back
+gives_fit_append (Op r acknowledged ∷ xs) ys s k n e prefix back = gives_fit_append xs ys (after_entry s k (Op r acknowledged)) (k + 1) n (omega arith) prefix back
+gives_fit_append (Take migration p ∷ xs) ys s k n e prefix back = gives_fit_append xs ys (after_entry s k (Take migration p)) (k + 1) n (omega arith) prefix back
+gives_fit_append (Give migration p ∷ xs) ys s k n e prefix back = (prefix.0, gives_fit_append xs ys (after_entry s k (Give migration p)) (k + 1) n (omega arith) prefix.1 back)
+gives_fit_append (Expire client ∷ xs) ys s k n e prefix back = gives_fit_append xs ys (after_entry s k (Expire client)) (k + 1) n (omega arith) prefix back
 
 -- a beginning's gives fit where those of the whole do
-pub gives_fit_front : (xs ys : List Entry) (s : LogState) (k : ℕ) → GivesFit s k (xs ++ ys) → GivesFit s k xs
-gives_fit_front [] ys s k all = tt
-gives_fit_front (Op r acknowledged ∷ xs) ys s k all = gives_fit_front xs ys (after_entry s k (Op r acknowledged)) (k + 1) all
-gives_fit_front (Take migration p ∷ xs) ys s k all = gives_fit_front xs ys (after_entry s k (Take migration p)) (k + 1) all
-gives_fit_front (Give migration p ∷ xs) ys s k all = (all.0, gives_fit_front xs ys (after_entry s k (Give migration p)) (k + 1) all.1)
-gives_fit_front (Expire client ∷ xs) ys s k all = gives_fit_front xs ys (after_entry s k (Expire client)) (k + 1) all
+pub gives_fit_prefix : (xs ys : List Entry) (s : LogState) (k : ℕ) → GivesFit s k (xs ++ ys) → GivesFit s k xs
+gives_fit_prefix [] ys s k all = tt
+gives_fit_prefix (Op r acknowledged ∷ xs) ys s k all = gives_fit_prefix xs ys (after_entry s k (Op r acknowledged)) (k + 1) all
+gives_fit_prefix (Take migration p ∷ xs) ys s k all = gives_fit_prefix xs ys (after_entry s k (Take migration p)) (k + 1) all
+gives_fit_prefix (Give migration p ∷ xs) ys s k all = (all.0, gives_fit_prefix xs ys (after_entry s k (Give migration p)) (k + 1) all.1)
+gives_fit_prefix (Expire client ∷ xs) ys s k all = gives_fit_prefix xs ys (after_entry s k (Expire client)) (k + 1) all
 
 -- entries without a give
 abbrev pub NoGives : List Entry → Type 0

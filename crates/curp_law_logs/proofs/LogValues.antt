@@ -19,8 +19,8 @@ use Rattle.curp_cmd.specs.Hash.{hashes}
 use Rattle.curp_model.specs.Table.{check}
 use Rattle.curp_law_logs.specs.Gives.{GiveFits, GivesFit}
 use Rattle.curp_law_logs.specs.Hashes.{behind, behind_from, came, came_from, value}
-use Rattle.curp_law_logs.proofs.Gives.{gives_fit_front}
-use Rattle.curp_law_logs.proofs.Logs.{log_front}
+use Rattle.curp_law_logs.proofs.Gives.{gives_fit_prefix}
+use Rattle.curp_law_logs.proofs.Logs.{prefix_of_log}
 use Rattle.curp_law_logs.proofs.Ranges.{Ordered, ordered_with_range, ordered_without, owned_with_range, owned_without, owns_touched}
 use Rattle.curp_law_logs.proofs.Stores.{get_with_others, get_with_pairs, get_without_keys, over}
 use Rattle.curp_law_logs.proofs.Values.{store_append, value_stays, value_step}
@@ -146,8 +146,8 @@ log_value lo hi log l fits gives h owned key is past values =
     ∙ ap (λ (s : Contents). map.get s key) (sym (store_append nothing past (behind h log)))
 
 -- and so at each of its beginnings
-pub log_value_front : (lo hi : ℕ) (log : List Entry) → lo ≤ hi → IsLog lo hi log → GivesFit (log_opening lo hi) 0 log → (front back : List Entry) → front ++ back ≡ log
-    → (h : ℕ) → is_owned (meaning lo hi front).owned h ≡ true → (key : List ℕ) → hash_of key ≡ h
-    → (past : List Asked) → ((other : List ℕ) → hash_of other ≡ h → value other past ≡ came h other front) → map.get (meaning lo hi front).store key ≡ value key (past ++ behind h front)
-log_value_front lo hi log l fits gives front back is =
-    log_value lo hi front l (log_front lo hi front back (subst (IsLog lo hi) (sym is) fits)) (gives_fit_front front back (log_opening lo hi) 0 (subst (GivesFit (log_opening lo hi) 0) (sym is) gives))
+pub log_value_prefix : (lo hi : ℕ) (log : List Entry) → lo ≤ hi → IsLog lo hi log → GivesFit (log_opening lo hi) 0 log → (prefix back : List Entry) → prefix ++ back ≡ log
+    → (h : ℕ) → is_owned (meaning lo hi prefix).owned h ≡ true → (key : List ℕ) → hash_of key ≡ h
+    → (past : List Asked) → ((other : List ℕ) → hash_of other ≡ h → value other past ≡ came h other prefix) → map.get (meaning lo hi prefix).store key ≡ value key (past ++ behind h prefix)
+log_value_prefix lo hi log l fits gives prefix back is =
+    log_value lo hi prefix l (prefix_of_log lo hi prefix back (subst (IsLog lo hi) (sym is) fits)) (gives_fit_prefix prefix back (log_opening lo hi) 0 (subst (GivesFit (log_opening lo hi) 0) (sym is) gives))

@@ -52,8 +52,8 @@ log_parts lo hi xs ys fits =
     let p = and_parts (all_fit (log_opening lo hi) 0 xs) _ (sym (fit_parts xs ys (log_opening lo hi) 0 (length xs) (omega arith)) ∙ fits) in (p.0, p.1)
 
 -- a log's beginning is a log
-pub log_front : (lo hi : ℕ) (xs ys : List Entry) → IsLog lo hi (xs ++ ys) → IsLog lo hi xs
-log_front lo hi xs ys fits = (log_parts lo hi xs ys fits).0
+pub prefix_of_log : (lo hi : ℕ) (xs ys : List Entry) → IsLog lo hi (xs ++ ys) → IsLog lo hi xs
+prefix_of_log lo hi xs ys fits = (log_parts lo hi xs ys fits).0
 
 -- the rest fits behind it
 pub log_back : (lo hi : ℕ) (xs ys : List Entry) → IsLog lo hi (xs ++ ys) → all_fit (meaning lo hi xs) (length xs) ys ≡ true
@@ -61,7 +61,7 @@ log_back lo hi xs ys fits = (log_parts lo hi xs ys fits).1
 
 -- and so is each list that it begins with
 pub log_prefix : (lo hi : ℕ) (xs ys : List Entry) → IsPrefix xs ys → IsLog lo hi ys → IsLog lo hi xs
-log_prefix lo hi xs ys p fits = log_front lo hi xs p.rest (subst (IsLog lo hi) (sym p.is) fits)
+log_prefix lo hi xs ys p fits = prefix_of_log lo hi xs p.rest (subst (IsLog lo hi) (sym p.is) fits)
 
 -- and what fits behind a log makes a longer one
 pub log_more : (lo hi : ℕ) (xs ys : List Entry) → IsLog lo hi xs → all_fit (meaning lo hi xs) (length xs) ys ≡ true → IsLog lo hi (xs ++ ys)

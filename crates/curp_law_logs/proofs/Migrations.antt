@@ -15,9 +15,9 @@ use Rattle.curp_law_logs.specs.Migrations.{GivenIs, MovesNothing, NumbersAscend,
 by_pushes : (P : List Entry → Type 0) → P [] → ((log : List Entry) (e : Entry) → P log → P (log ++ e ∷ [])) → (log : List Entry) → P log
 by_pushes P none push log = go [] log none
   where
-    go : (front back : List Entry) → P front → P (front ++ back)
-    go front [] p = subst P (sym (append-nil front)) p
-    go front (e ∷ back) p = subst P (append_assoc front (e ∷ []) back) (go (front ++ e ∷ []) back (push front e p))
+    go : (prefix back : List Entry) → P prefix → P (prefix ++ back)
+    go prefix [] p = subst P (sym (append-nil prefix)) p
+    go prefix (e ∷ back) p = subst P (append_assoc prefix (e ∷ []) back) (go (prefix ++ e ∷ []) back (push prefix e p))
 
 -- ---- the last take
 

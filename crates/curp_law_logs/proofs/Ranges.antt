@@ -86,7 +86,7 @@ turn_or false true = refl
 turn_or false false = refl
 
 joined : (a b first last h : ℕ) → a ≤ b → first ≤ last → nat_lt (b + 1) first ≡ false → nat_lt (last + 1) a ≡ false → is_in (min a first) (max b last) h ≡ (is_in a b h || is_in first last h)
-joined a b first last h o q front back = grind (arith, nat_tests)
+joined a b first last h o q prefix back = grind (arith, nat_tests)
 
 -- a hash is owned behind it, if it was or is of the range
 pub owned_with_range : (spans : List Span) (lo hi h : ℕ) → Ordered spans → lo ≤ hi → is_owned (with_range spans lo hi) h ≡ (is_owned spans h || is_in lo hi h)

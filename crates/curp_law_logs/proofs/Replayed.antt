@@ -85,10 +85,10 @@ between_at log c i p l within k e at =
 pub replayed_alike : (lo hi : ℕ) (log : List Entry) (c i : ℕ) (r : Request) → lo ≤ hi → IsLog lo hi log → GivesWithin log → IsFree log c i r → (rs : List Request) (j : ℕ) (q : Request) → IsDistinct clash rs → At rs j q → q.id ≡ r.id → q.command ≡ r.command
     → (replays (meaning lo hi (take c log)) q ≡ true) × IsDone lo hi (replay lo hi (take c log) rs) q.id (answer_after lo hi (take i log) r.command)
 replayed_alike lo hi log c i r l fits gives free rs j q apart at same_id same_command =
-    (is_replayed, (alone commute second_alone lo hi front rs j q (answer_after lo hi (take i log) r.command) apart at is_replayed).1 answer)
+    (is_replayed, (alone commute second_alone lo hi prefix rs j q (answer_after lo hi (take i log) r.command) apart at is_replayed).1 answer)
   where
-    front : List Entry
-    front = take c log
+    prefix : List Entry
+    prefix = take c log
 
     within : i < length log
     within = at_within log i (Op r free.acknowledged) free.stands
@@ -104,15 +104,15 @@ replayed_alike lo hi log c i r l fits gives free rs j q apart at same_id same_co
     gives_there : GivesWithin p.rest
     gives_there k migration x at = gives (c + k) migration x (between_at log c i p free.behind within k (Give migration x) at).1
 
-    new : check (meaning lo hi front).table q.id ≡ New
-    new = ap (check (meaning lo hi front).table) same_id ∙ new_before lo hi front (take i log) r.id p (op_new lo hi log i r free.acknowledged fits free.stands)
+    new : check (meaning lo hi prefix).table q.id ≡ New
+    new = ap (check (meaning lo hi prefix).table) same_id ∙ new_before lo hi prefix (take i log) r.id p (op_new lo hi log i r free.acknowledged fits free.stands)
 
-    owned : owns_all (meaning lo hi front).owned (hashes q.command) ≡ true
-    owned = ap (λ (c : Command). owns_all (meaning lo hi front).owned (hashes c)) same_command
-        ∙ owns_untouched lo hi front p.rest r.command l out (ap (λ (es : List Entry). owns_all (meaning lo hi es).owned (hashes r.command)) p.is ∙ op_owned lo hi log i r free.acknowledged fits free.stands)
+    owned : owns_all (meaning lo hi prefix).owned (hashes q.command) ≡ true
+    owned = ap (λ (c : Command). owns_all (meaning lo hi prefix).owned (hashes c)) same_command
+        ∙ owns_untouched lo hi prefix p.rest r.command l out (ap (λ (es : List Entry). owns_all (meaning lo hi es).owned (hashes r.command)) p.is ∙ op_owned lo hi log i r free.acknowledged fits free.stands)
 
-    is_replayed : replays (meaning lo hi front) q ≡ true
+    is_replayed : replays (meaning lo hi prefix) q ≡ true
     is_replayed = and_from _ _ owned (ap is_new new)
 
-    answer : answer_after lo hi (take i log) r.command ≡ answer_after lo hi front q.command
-    answer = ap (λ (es : List Entry). answer_after lo hi es r.command) (sym p.is) ∙ answer_untouched lo hi front p.rest r.command gives_there out ∙ ap (answer_after lo hi front) (sym same_command)
+    answer : answer_after lo hi (take i log) r.command ≡ answer_after lo hi prefix q.command
+    answer = ap (λ (es : List Entry). answer_after lo hi es r.command) (sym p.is) ∙ answer_untouched lo hi prefix p.rest r.command gives_there out ∙ ap (answer_after lo hi prefix) (sym same_command)

@@ -17,11 +17,11 @@ unfolding after_entry
 taken_entry s n number k h = owned_without s.owned k.lo k.hi h
 
 -- what is owned behind it is what was owned, without its range
-pub owned_taken : (lo hi : ℕ) (front : List Entry) (number : ℕ) (k : Package) (h : ℕ) → is_owned (meaning lo hi (front ++ Take number k ∷ [])).owned h ≡ (is_owned (meaning lo hi front).owned h && not (is_in k.lo k.hi h))
-owned_taken lo hi front number k h = ap (λ (s : LogState). is_owned s.owned h) (meaning_append lo hi front (Take number k ∷ [])) ∙ taken_entry (meaning lo hi front) (length front) number k h
+pub owned_taken : (lo hi : ℕ) (prefix : List Entry) (number : ℕ) (k : Package) (h : ℕ) → is_owned (meaning lo hi (prefix ++ Take number k ∷ [])).owned h ≡ (is_owned (meaning lo hi prefix).owned h && not (is_in k.lo k.hi h))
+owned_taken lo hi prefix number k h = ap (λ (s : LogState). is_owned s.owned h) (meaning_append lo hi prefix (Take number k ∷ [])) ∙ taken_entry (meaning lo hi prefix) (length prefix) number k h
 
 -- a take of the hash stands in the log, with no give on the hash behind it
 module _ (lo hi : ℕ) (log : List Entry) (h j number : ℕ) (k : Package) (ordered : lo ≤ hi) (fits : IsLog lo hi log)
     (stands : At log j (Take number k)) (covers : is_in k.lo k.hi h ≡ true) (quiet : NoGive h (drop (j + 1) log)) where
-  abbrev front : List Entry
-  front = take j log
+  abbrev prefix : List Entry
+  prefix = take j log

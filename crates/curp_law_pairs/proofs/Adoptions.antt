@@ -38,8 +38,8 @@ module _ {w : World} (names : Names w) (inv : Invariant w) where
     abbrev replayed : List Entry
     replayed = replay (lo_of w l.part) (hi_of w l.part) ok.holds.sources.b.log (frozen_requests ok.holds.sources.x)
 
-    front_is : ok.front ≡ replayed
-    front_is =
+    prefix_is : ok.prefix ≡ replayed
+    prefix_is =
         ok.is_replay
         ∙ ap (λ (lo : ℕ). replay lo ok.holds.order.hi ok.holds.sources.b.log (frozen_requests ok.holds.sources.x)) (home.its_lo ∙ ap (lo_of w) its_part)
         ∙ ap (λ (hi : ℕ). replay (lo_of w l.part) hi ok.holds.sources.b.log (frozen_requests ok.holds.sources.x)) (home.its_hi ∙ ap (hi_of w) its_part)
@@ -47,9 +47,9 @@ module _ {w : World} (names : Names w) (inv : Invariant w) where
     on_backup : (node : NodeId) → IsAmong node l.backups → (f : BackupState) → IsBackup w node f → IsPrefix replayed f.log
     on_backup node named f is =
         let first = order_first names l was.given ok.holds.order ok.holds.sent in
-        let many = reached names inv l was ok.holds.order.version (length ok.front) ok.reach first node named f is in
-        subst (λ (es : List Entry). IsPrefix es f.log) front_is
-        (prefix_shorter ok.front f.log ok.l.log ok.began (begins names inv l was.given ok.l ok.its_log node named f is) many)
+        let many = reached names inv l was ok.holds.order.version (length ok.prefix) ok.reach first node named f is in
+        subst (λ (es : List Entry). IsPrefix es f.log) prefix_is
+        (prefix_shorter ok.prefix f.log ok.l.log ok.began (begins names inv l was.given ok.l ok.its_log node named f is) many)
 
     adoption : AdoptionOk w l
     adoption = record {
@@ -77,7 +77,7 @@ module _ {w : World} (names : Names w) (inv : Invariant w) where
       its_other = refl;
       its = ok.l;
       its_log = ok.its_log;
-      began = subst (λ (es : List Entry). IsPrefix es ok.l.log) front_is ok.began;
+      began = subst (λ (es : List Entry). IsPrefix es ok.l.log) prefix_is ok.began;
       on_all = each_among (λ node. (f : BackupState) → IsBackup w node f → IsPrefix replayed f.log) l.backups on_backup;
     }
 

@@ -27,8 +27,8 @@ use Rattle.curp_law_pairs.proofs.Logs.{begins, reached}
 use Rattle.curp_law_pairs.proofs.Prefixes.{prefix_shorter}
 
 -- what stands below a number stands among the first so many
-at_front : {A : Type 0} (n : ℕ) (xs : List A) (k : ℕ) (x : A) → n ≤ length xs → k < n → At xs k x → At (take n xs) k x
-at_front n xs k x low within at = prefix_back (prefix_take n xs) k x (omega (arith, within, length-take-le n xs low)) at
+at_prefix : {A : Type 0} (n : ℕ) (xs : List A) (k : ℕ) (x : A) → n ≤ length xs → k < n → At xs k x → At (take n xs) k x
+at_prefix n xs k x low within at = prefix_back (prefix_take n xs) k x (omega (arith, within, length-take-le n xs low)) at
 
 -- what follows of each log holds too
 pub holds_weaker : {w : World} (l : Lists) (P Q : List Entry → Type 0) → ((log : List Entry) → P log → Q log) → HoldsOn w l P → HoldsOn w l Q
@@ -56,7 +56,7 @@ module _ {w : World} (names : Names w) (inv : Invariant w) (chain : Predecessors
             its_log = a.its_log;
             in_log = lasting replayed a.its.log a.began p;
             on_all = Each-weaker (λ node. (f : BackupState) → IsBackup w node f → IsPrefix replayed f.log) (λ node. (f : BackupState) → IsBackup w node f → P f.log)
-                (λ node front f is. lasting replayed f.log (front f is) p) l.backups a.on_all;
+                (λ node prefix f is. lasting replayed f.log (prefix f is) p) l.backups a.on_all;
           }
 
       -- so far as epochs are below a number
@@ -117,5 +117,5 @@ module _ {w : World} (names : Names w) (inv : Invariant w) (chain : Predecessors
   pub entry_along : (k : Lists) → WasAdopted w k → (its : Logged) → HasLog w k.master its → (n : ℕ) → n ≤ length its.log → Reach w k.master k.version n
       → (i : ℕ) (e : Entry) → i < n → At its.log i e → (l : Lists) → WasAdopted w l → l.part ≡ k.part → k.version ≤ l.version → HoldsOn w l (λ log. At log i e)
   entry_along k first its has n low reach i e within at l was part above =
-      holds_weaker l (IsPrefix (take n its.log)) (λ log. At log i e) (λ log front. prefix_at front i e (at_front n its.log i e low within at))
+      holds_weaker l (IsPrefix (take n its.log)) (λ log. At log i e) (λ log prefix. prefix_at prefix i e (at_prefix n its.log i e low within at))
       (reach_along k first its has n low reach l was part above)

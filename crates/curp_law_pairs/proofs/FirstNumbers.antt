@@ -40,8 +40,8 @@ log_first : (w : World) (part : ℕ) (log : List Entry) → LogOk w part log →
 log_first w part log ok = Each-weaker (EntryOk w part) (EntryFirstOk w) (entry_first w part) log ok.entries
 
 -- what holds of each item holds of each of a beginning
-each_front : {A : Type 0} (P : A → Type 0) (xs ys : List A) → IsPrefix xs ys → Each P ys → Each P xs
-each_front P xs ys p all = Each-from_at P xs (λ k x at. Each-at P ys all k x (prefix_at p k x at))
+each_prefix : {A : Type 0} (P : A → Type 0) (xs ys : List A) → IsPrefix xs ys → Each P ys → Each P xs
+each_prefix P xs ys p all = Each-from_at P xs (λ k x at. Each-at P ys all k x (prefix_at p k x at))
 
 module _ {w : World} (names : Names w) (inv : Invariant w) where
   in_logs : (l : Lists) → IsGiven w l → (its : Logged) → HasLog w l.master its → Each (EntryFirstOk w) its.log
@@ -50,13 +50,13 @@ module _ {w : World} (names : Names w) (inv : Invariant w) where
   append_first : (from to : NodeId) (a : Append) → AppendSaid w from to a → Each (EntryFirstOk w) a.entries
   append_first from to a ok =
       let all = in_logs ok.lists ok.given ok.holds.l (subst (λ (n : NodeId). HasLog w n ok.holds.l) (sym ok.its_master) ok.holds.its_log) in
-      each_front (EntryFirstOk w) a.entries (drop a.base ok.holds.l.log) ok.holds.part (Each-drop (EntryFirstOk w) a.base ok.holds.l.log all)
+      each_prefix (EntryFirstOk w) a.entries (drop a.base ok.holds.l.log) ok.holds.part (Each-drop (EntryFirstOk w) a.base ok.holds.l.log all)
 
   -- a backup's log begins its master's
   fenced_first : (from : NodeId) (epoch : ℕ) (entries : List Entry) → FencedLogOk w from epoch entries → Each (EntryFirstOk w) entries
   fenced_first from epoch entries ok = subst (λ (es : List Entry). Each (EntryFirstOk w) es) ok.its_log (elim (inv.backups ok.lists ok.given from ok.its_backup ok.b ok.is).follows [
     | inl none ↦ subst (λ (es : List Entry). Each (EntryFirstOk w) es) (sym none) tt
-    | inr f ↦ each_front (EntryFirstOk w) ok.b.log f.its.log f.front (in_logs ok.lists ok.given f.its f.its_log)
+    | inr f ↦ each_prefix (EntryFirstOk w) ok.b.log f.its.log f.prefix (in_logs ok.lists ok.given f.its f.its_log)
   ])
 
   fence_reply_first : (from : NodeId) (epoch : ℕ) (answer : FenceReply) → FenceReplyOk w from epoch answer → ReplyFirstOk w answer

@@ -84,7 +84,7 @@ module _ {w : World} (names : Names w) (inv : Invariant w) where
   pub begins : (l : Lists) → IsGiven w l → (its : Logged) → HasLog w l.master its → (node : NodeId) → IsAmong node l.backups → (b : BackupState) → IsBackup w node b → IsPrefix b.log its.log
   begins l given its has node named b is = elim (inv.backups l given node named b is).follows [
     | inl none ↦ record { rest = its.log; is = ap (λ (es : List Entry). es ++ its.log) none }
-    | inr f ↦ subst (λ (x : Logged). IsPrefix b.log x.log) (one_log f.its its f.its_log has) f.front
+    | inr f ↦ subst (λ (x : Logged). IsPrefix b.log x.log) (one_log f.its its f.its_log has) f.prefix
   ]
 
   -- what is reached is on each backup of each adopted list from that version on

@@ -40,7 +40,7 @@ module _ {w : World} (names : Names w) (inv : Invariant w) where
     pub stands_along : (p : ℕ) (id : RequestId) (a : Answer) (k : AnsweredBy w p id a) (l : Lists) → WasAdopted w l → l.part ≡ p → k.lists.epoch < l.epoch
         → HoldsOn w l (Standing w p id a)
     stands_along p id a k l was part later =
-        along names inv chain (Standing w p id a) (λ xs ys front s. stands_grows (lo_of w p) (hi_of w p) xs ys id a front s) k.lists k.adopted start l was (part ∙ sym k.its_part) later
+        along names inv chain (Standing w p id a) (λ xs ys prefix s. stands_grows (lo_of w p) (hi_of w p) xs ys id a prefix s) k.lists k.adopted start l was (part ∙ sym k.its_part) later
       where
         start : (j : Lists) → WasAdopted w j → j.master ≡ k.lists.master → IsLast w j → IsRecoverable w j (Standing w p id a)
         start j adopted master last node other named named_too b x is its_witness =

@@ -9,9 +9,9 @@ prefix_shorter (x ∷ xs) [] zs p q low = absurd (omega (arith, low))
 prefix_shorter (x ∷ xs) (y ∷ ys) [] p q low = absurd (cc (p.is))
 prefix_shorter {A} (x ∷ xs) (y ∷ ys) (z ∷ zs) p q low =
     let first : x ≡ y = cc (p.is, q.is) in
-    let front : IsPrefix xs zs = record { rest = p.rest; is = cc (p.is) } in
+    let prefix : IsPrefix xs zs = record { rest = p.rest; is = cc (p.is) } in
     let back : IsPrefix ys zs = record { rest = q.rest; is = cc (q.is) } in
-    let o = prefix_shorter xs ys zs front back (omega (arith, low)) in
+    let o = prefix_shorter xs ys zs prefix back (omega (arith, low)) in
     record { rest = o.rest; is = ap (λ (w : List A). x ∷ w) o.is ∙ ap (λ (w : A). w ∷ ys) first }
 
 -- one that is as long as the whole begins it, and the whole begins with it

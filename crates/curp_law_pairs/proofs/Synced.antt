@@ -46,6 +46,6 @@ module _ {w : World} (names : Names w) (inv : Invariant w) where
                 let agree = (names.agree s.lists j s.adopted.given adopted.given).by_master (sym master) in
                 let newer = last s.lists s.adopted agree.0 (omega (arith, agree.1)) in
                 let many = reached names inv j adopted ans.reply.version (s.stands.index + 1) (subst (λ (m : NodeId). Reach w m ans.reply.version (s.stands.index + 1)) (sym master) reach) (omega (arith, newer, s.its_version)) node named b is in
-                let front = begins names inv j adopted.given s.l (subst (λ (m : NodeId). HasLog w m s.l) (sym master) has) node named b is in
-                inl (synced_stands (lo_of w p) (hi_of w p) s.l.log b.log s.stands.index id a front (omega (arith, many)) here);
+                let prefix = begins names inv j adopted.given s.l (subst (λ (m : NodeId). HasLog w m s.l) (sym master) has) node named b is in
+                inl (synced_stands (lo_of w p) (hi_of w p) s.l.log b.log s.stands.index id a prefix (omega (arith, many)) here);
           }

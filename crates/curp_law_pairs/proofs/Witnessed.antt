@@ -80,11 +80,11 @@ module _ {w : World} (names : Names w) (inv : Invariant w) where
       newer : e.lists.version ≤ j.version
       newer = let agree = (names.agree e.lists j e.adopted.given adopted.given).by_master (sym master) in last e.lists e.adopted agree.0 (omega (arith, agree.1))
 
-      front : IsPrefix b.log e.m.log
-      front = begins names inv j adopted.given its (subst (λ (m : NodeId). HasLog w m its) (sym master) has) node named b is
+      prefix : IsPrefix b.log e.m.log
+      prefix = begins names inv j adopted.given its (subst (λ (m : NodeId). HasLog w m its) (sym master) has) node named b is
 
       within : e.index < length b.log → Stands lo hi b.log id a
-      within low = synced_stands lo hi e.m.log b.log e.index id a front low here
+      within low = synced_stands lo hi e.m.log b.log e.index id a prefix low here
 
       -- in lists behind those of the reply, each backup has it
       later : e.lists.version < j.version → Stands lo hi b.log id a
@@ -126,7 +126,7 @@ module _ {w : World} (names : Names w) (inv : Invariant w) where
             let same_command = one_command inv e.request h.1.request updates.request update.request same_id in
             let stored : e.synced ≤ length b.log = Each-at (HasMany w e.synced) j.backups (subst (λ (l : Lists). Each (HasMany w e.synced) l.backups) same e.stored) named.place node named.stands b is in
             let done : IsDone lo hi (replay lo hi b.log (frozen_requests x)) e.request.id (answer_after lo hi (take e.index e.m.log) e.request.command)
-            = early_replayed lo hi e.m.log b.log e.synced e.index e.request e.acknowledged (range_ordered w p) log.is_log (gives_within inv p e.m.log log) front e.stands e.below stored e.apart
+            = early_replayed lo hi e.m.log b.log e.synced e.index e.request e.acknowledged (range_ordered w p) log.is_log (gives_within inv p e.m.log log) prefix e.stands e.below stored e.apart
             (frozen_requests x) kept.place h.1.request (frozen_apart x ok.apart) kept.stands same_id same_command in
             record {
               request = h.1.request;

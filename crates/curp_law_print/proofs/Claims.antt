@@ -26,9 +26,9 @@ line_read n claim line rest is within =
     ap (claim_from n claim) (line_first text rest is.all_shown)
     ∙ rw (not_below line_limit (length text) is.fits, not_below claim_limit n within, is.read) refl
 
--- a front of a history is one
-front_of_history : (xs ys : List order.Event) → IsHistory (xs ++ ys) → IsHistory xs
-front_of_history xs ys h = record {
+-- a prefix of a history is one
+prefix_of_history : (xs ys : List order.Event) → IsHistory (xs ++ ys) → IsHistory xs
+prefix_of_history xs ys h = record {
   invoked_once = λ i j id c d at_i at_j. h.invoked_once i j id c d (at_append xs ys i _ at_i) (at_append xs ys j _ at_j);
   completed_once = λ i j id a b at_i at_j. h.completed_once i j id a b (at_append xs ys i _ at_i) (at_append xs ys j _ at_j);
   after_invoked = λ j id a at.
@@ -44,7 +44,7 @@ next_may done e rest h = by (may_follow done e) refl
     by : (b : Bool) → may_follow done e ≡ b → b ≡ true
     by true is = refl
     by false is =
-        absurd (no_history done e is (front_of_history (done ++ e ∷ []) rest (subst (λ (es : List order.Event). IsHistory es) (sym (append_assoc done (e ∷ []) rest)) h)))
+        absurd (no_history done e is (prefix_of_history (done ++ e ∷ []) rest (subst (λ (es : List order.Event). IsHistory es) (sym (append_assoc done (e ∷ []) rest)) h)))
 
 history_read : (n : ℕ) (done rest : List order.Event) (more : List ℕ) → Each EventInRange rest → IsHistory (done ++ rest) → n + length rest ≤ claim_limit + 1
     → claim_from n (record { events = done; order = [] }) (lines_of (history_lines rest ++ more))

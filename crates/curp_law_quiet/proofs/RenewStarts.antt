@@ -174,9 +174,9 @@ module _ (w : World) (c : PartConfig) (from other : NodeId) (can : CanRecover w 
 
     order_at : At out (length (install_on o.epoch o.backups ++ start_on o.part o.epoch o.witnesses)) (says manager_node (master_node q) (body.Recover o))
     order_at =
-        let front : List Message = install_on o.epoch o.backups ++ start_on o.part o.epoch o.witnesses in
-        let e : length front ≡ length front + 0 = omega arith in
-        at_append_right front (says manager_node (master_node q) (body.Recover o) ∷ []) 0 (length front) (says manager_node (master_node q) (body.Recover o)) e refl
+        let prefix : List Message = install_on o.epoch o.backups ++ start_on o.part o.epoch o.witnesses in
+        let e : length prefix ≡ length prefix + 0 = omega arith in
+        at_append_right prefix (says manager_node (master_node q) (body.Recover o) ∷ []) 0 (length prefix) (says manager_node (master_node q) (body.Recover o)) e refl
 
     -- a recovery has begun
     pub begins_renewal : Renewing v (length (messages w)) c q o cl

@@ -27,7 +27,7 @@ use Rattle.curp_facts.specs.Migrated.{WasTold}
 use Rattle.curp_facts.specs.Routes.{IsMoving}
 use Rattle.curp_law_routes.proofs.Migrated.{given_in, one_stored, taken_out, told_stored, work_or_done}
 use Rattle.curp_law_routes.proofs.Steps.{nothing_sent}
-use Rattle.curp_law_routes.proofs.Stored.{front_at, front_back, one_adopted, one_take, stored_now}
+use Rattle.curp_law_routes.proofs.Stored.{place_in_prefix, prefix_from_back, one_adopted, one_take, stored_now}
 
 -- at the opening nothing was told
 pub opening_before : (h : Header) → GivesBefore (opening h)
@@ -59,11 +59,11 @@ module _ {w v : World} (s : Follows w v) (a : Routed w) (b : Routed v) (before :
       -- the give stands in it
       let adopted : l.its ≡ ny.its.its = one_adopted b.names c ny.entry l ny.its (ap (λ (z : PartConfig). z.part) (sym one.0)) in
       let give_there : At ny.its.its.log k (Give other p) = subst (λ (z : Logged). At z.log k (Give other p)) adopted there in
-      let give_y : At y.l.log k (Give other p) = front_back y.index y.l.log ny.its.its.log k (Give other p) within_y ny.front (omega (arith, low, one.1)) give_there in
+      let give_y : At y.l.log k (Give other p) = prefix_from_back y.index y.l.log ny.its.its.log k (Give other p) within_y ny.prefix (omega (arith, low, one.1)) give_there in
       let give_o : At o.0.log k (Give other p) = subst (λ (z : Logged). At z.log k (Give other p)) same give_y in
       let give_x : At x.l.log k (Give other p) = prefix_back o.2 k (Give other p) (omega (arith, low, one.1, place, within_x)) give_o in
-      before.earlier number told nx.entry nx.its x.index q (front_at x.index x.l.log nx.its.its.log x.index (Take number q) within_x nx.front (omega arith) take_x)
-      k other p (omega (arith, low, one.1, place)) (front_at x.index x.l.log nx.its.its.log k (Give other p) within_x nx.front (omega (arith, low, one.1, place)) give_x)
+      before.earlier number told nx.entry nx.its x.index q (place_in_prefix x.index x.l.log nx.its.its.log x.index (Take number q) within_x nx.prefix (omega arith) take_x)
+      k other p (omega (arith, low, one.1, place)) (place_in_prefix x.index x.l.log nx.its.its.log k (Give other p) within_x nx.prefix (omega (arith, low, one.1, place)) give_x)
 
   -- of the migration in work all gives are of earlier numbers
   moving_before : v.manager ≡ w.manager → (number : ℕ) → IsMoving w number → (c : PartConfig) (l : AdoptedLog v c) (index : ℕ) (taken : Package) → At l.its.log index (Take number taken)

@@ -37,7 +37,7 @@ use Rattle.curp_facts.specs.Before.{GivesBefore}
 use Rattle.curp_facts.specs.Migrated.{AllStored, Migrated, OnlyInWork, OpStored, TakeStored, WasTold}
 use Rattle.curp_facts.specs.Routes.{IsMigrationDone, IsGiveOf, IsMoving, Routes}
 use Rattle.curp_law_logs.proofs.Records.{recorded}
-use Rattle.curp_law_routes.proofs.Stored.{adopted_ok, front_at, one_adopted, one_entry, one_give, one_take, stored_now}
+use Rattle.curp_law_routes.proofs.Stored.{adopted_ok, place_in_prefix, one_adopted, one_entry, one_give, one_take, stored_now}
 
 module _ {w : World} (names : Names w) (inv : Invariant w) (chain : Predecessors w) (routes : Routes w) where
   -- ---- where takes and gives were ordered
@@ -66,7 +66,7 @@ module _ {w : World} (names : Names w) (inv : Invariant w) (chain : Predecessors
         source = n.entry;
         its = n.its;
         index = s.index;
-        stands = front_at s.index s.l.log n.its.its.log s.index (Take g.migration g.package) (at_within s.l.log s.index s.entry s.stands) n.front (omega arith) (subst (At s.l.log s.index) s.is s.stands);
+        stands = place_in_prefix s.index s.l.log n.its.its.log s.index (Take g.migration g.package) (at_within s.l.log s.index s.entry s.stands) n.prefix (omega arith) (subst (At s.l.log s.index) s.is s.stands);
         stored = n.stored;
       }
 
@@ -125,7 +125,7 @@ module _ {w : World} (names : Names w) (inv : Invariant w) (chain : Predecessors
         let s : StoredEntry w d.target (IsGiveOf number) = d.given in
         let n = stored_now names inv chain d.target (IsGiveOf number) s in
         let own : At n.its.its.log s.index (Give number s.is.0)
-        = front_at s.index s.l.log n.its.its.log s.index (Give number s.is.0) (at_within s.l.log s.index s.entry s.stands) n.front (omega arith) (subst (At s.l.log s.index) s.is.1 s.stands) in
+        = place_in_prefix s.index s.l.log n.its.its.log s.index (Give number s.is.0) (at_within s.l.log s.index s.entry s.stands) n.prefix (omega arith) (subst (At s.l.log s.index) s.is.1 s.stands) in
         let part : n.entry.part ≡ c.part = routes.one_target n.entry.part c.part (record { migration = number; «package» = s.is.0 }) (record { migration = number; «package» = p })
         (given_in n.entry n.its s.index number s.is.0 own) (given_in c l index number p at) refl in
         let same : n.its.its ≡ l.its = one_adopted names n.entry c n.its l part in

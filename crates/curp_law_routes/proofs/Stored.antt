@@ -69,21 +69,21 @@ module _ {w : World} (names : Names w) where
             entry = c.0;
             its = record { now = c.1; its = o.its; its_log = o.its_log };
             its_part = c.2;
-            front = o.in_log;
+            prefix = o.in_log;
             stored = λ node named b is.
-                let front : IsPrefix (take (s.index + 1) s.l.log) b.log = Each-at (λ node. (b : BackupState) → IsBackup w node b → IsPrefix (take (s.index + 1) s.l.log) b.log) c.0.backups o.on_all named.place node named.stands b is in
-                omega (arith, prefix_length front, length-take-le (s.index + 1) s.l.log (omega (arith, within)));
+                let prefix : IsPrefix (take (s.index + 1) s.l.log) b.log = Each-at (λ node. (b : BackupState) → IsBackup w node b → IsPrefix (take (s.index + 1) s.l.log) b.log) c.0.backups o.on_all named.place node named.stands b is in
+                omega (arith, prefix_length prefix, length-take-le (s.index + 1) s.l.log (omega (arith, within)));
           }
 
 -- what stands among the first of a log stands in each that begins so
-pub front_at : (index : ℕ) (log other : List Entry) (k : ℕ) (e : Entry) → index < length log → IsPrefix (take (index + 1) log) other → k ≤ index → At log k e → At other k e
-front_at index log other k e within front low at =
-    prefix_at front k e (prefix_back (prefix_take (index + 1) log) k e (omega (arith, low, length-take-le (index + 1) log (omega (arith, within)))) at)
+pub place_in_prefix : (index : ℕ) (log other : List Entry) (k : ℕ) (e : Entry) → index < length log → IsPrefix (take (index + 1) log) other → k ≤ index → At log k e → At other k e
+place_in_prefix index log other k e within prefix low at =
+    prefix_at prefix k e (prefix_back (prefix_take (index + 1) log) k e (omega (arith, low, length-take-le (index + 1) log (omega (arith, within)))) at)
 
 -- and the other way round
-pub front_back : (index : ℕ) (log other : List Entry) (k : ℕ) (e : Entry) → index < length log → IsPrefix (take (index + 1) log) other → k ≤ index → At other k e → At log k e
-front_back index log other k e within front low at =
-    (at_take (index + 1) log k e (prefix_back front k e (omega (arith, low, length-take-le (index + 1) log (omega (arith, within)))) at)).1
+pub prefix_from_back : (index : ℕ) (log other : List Entry) (k : ℕ) (e : Entry) → index < length log → IsPrefix (take (index + 1) log) other → k ≤ index → At other k e → At log k e
+prefix_from_back index log other k e within prefix low at =
+    (at_take (index + 1) log k e (prefix_back prefix k e (omega (arith, low, length-take-le (index + 1) log (omega (arith, within)))) at)).1
 
 -- ---- migrations stand at most once in a log
 

@@ -23,7 +23,7 @@ use Rattle.curp_law_pairs.proofs.Words.{said}
 use Rattle.curp_facts.specs.Routes.{IsGiveOf, Routes}
 use Rattle.curp_facts.specs.Stored.{StoredNow}
 use Rattle.curp_law_routes.proofs.Migrated.{work_or_done}
-use Rattle.curp_law_routes.proofs.Stored.{front_at, one_entry, stored_now}
+use Rattle.curp_law_routes.proofs.Stored.{place_in_prefix, one_entry, stored_now}
 
 module _ {w : World} (names : Names w) (inv : Invariant w) (chain : Predecessors w) (routes : Routes w) where
   -- an entry that a master has stored stands on each backup of the adopted list of its partition
@@ -32,7 +32,7 @@ module _ {w : World} (names : Names w) (inv : Invariant w) (chain : Predecessors
       let o : StoredNow w s.lists.part s.l.log s.index = stored_now names inv chain from Is s in
       let same : o.entry ≡ c = one_entry names o.entry c o.its.now now (o.its_part ∙ sym its_part) in
       let within = at_within s.l.log s.index s.entry s.stands in
-      let in_log : At o.its.its.log s.index s.entry = front_at s.index s.l.log o.its.its.log s.index s.entry within o.front (omega arith) s.stands in
+      let in_log : At o.its.its.log s.index s.entry = place_in_prefix s.index s.l.log o.its.its.log s.index s.entry within o.prefix (omega arith) s.stands in
       subst (λ (d : PartConfig). Each (λ node. (b : BackupState) → IsBackup w node b → At b.log s.index s.entry) d.backups) same
       (Each-from_at (λ node. (b : BackupState) → IsBackup w node b → At b.log s.index s.entry) o.entry.backups (λ k node at b is.
       let named : IsAmong node o.entry.backups = record { place = k; stands = at } in

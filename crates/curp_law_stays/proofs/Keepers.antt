@@ -147,16 +147,16 @@ module _ {w v : World} (s : Follows w v) where
   fence_reply_later backups from epoch _ ok = tt
 
   -- what each backup's log begins with stays so
-  pub fronts_later : (nodes : List NodeId) (front : List Entry) → Each (BackupIsThere w) nodes → Each (λ node. (f : BackupState) → IsBackup w node f → IsPrefix front f.log) nodes
-      → Each (λ node. (f : BackupState) → IsBackup v node f → IsPrefix front f.log) nodes
-  fronts_later [] front there fronts = tt
-  fronts_later (node ∷ nodes) front there fronts = (first, fronts_later nodes front there.1 fronts.1)
+  pub prefixes_later : (nodes : List NodeId) (prefix : List Entry) → Each (BackupIsThere w) nodes → Each (λ node. (f : BackupState) → IsBackup w node f → IsPrefix prefix f.log) nodes
+      → Each (λ node. (f : BackupState) → IsBackup v node f → IsPrefix prefix f.log) nodes
+  prefixes_later [] prefix there prefixes = tt
+  prefixes_later (node ∷ nodes) prefix there prefixes = (first, prefixes_later nodes prefix there.1 prefixes.1)
     where
-      first : (f : BackupState) → IsBackup v node f → IsPrefix front f.log
+      first : (f : BackupState) → IsBackup v node f → IsPrefix prefix f.log
       first f is =
           let o = backup_later s node there.0.0 there.0.1 in
           let same : o.0 ≡ f = one_state _ o.0 f o.1.its_state is.its_state in
-          subst (λ (x : BackupState). IsPrefix front x.log) same (prefix_trans (fronts.0 there.0.0 there.0.1) o.2.log)
+          subst (λ (x : BackupState). IsPrefix prefix x.log) same (prefix_trans (prefixes.0 there.0.0 there.0.1) o.2.log)
 
   pub probed_later : (from to : NodeId) (a : Probed) → ProbedSaid w from to a → ProbedSaid v from to a
   probed_later from to a ok = record {

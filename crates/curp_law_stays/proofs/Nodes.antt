@@ -21,7 +21,7 @@ module _ {w v : World} (s : Follows w v) where
   -- ---- backups and witnesses
 
   follows_later : (l : Lists) (b : BackupState) → FollowsLog w l b → FollowsLog v l b
-  follows_later l b ok = let o = log_later s l.master ok.its ok.its_log in record { its = o.0; its_log = o.1; front = prefix_trans ok.front o.2 }
+  follows_later l b ok = let o = log_later s l.master ok.its ok.its_log in record { its = o.0; its_log = o.1; prefix = prefix_trans ok.prefix o.2 }
 
   pub backup_ok_later : (l : Lists) (b : BackupState) → BackupOk w l b → BackupOk v l b
   backup_ok_later l b ok = record {

@@ -21,7 +21,7 @@ use Rattle.curp_facts.specs.Nodes.{MasterOk}
 use Rattle.curp_facts.specs.Said.{RecoveredSaid}
 use Rattle.curp_law_logs.proofs.Logs.{take_grows}
 use Rattle.curp_facts.specs.Names.{RecoverOrderOk}
-use Rattle.curp_law_stays.proofs.Keepers.{fronts_later, sources_later}
+use Rattle.curp_law_stays.proofs.Keepers.{prefixes_later, sources_later}
 use Rattle.curp_law_stays.proofs.Words.{Follows, given_later, log_later, master_later, message_at, one_state, reach_later, sent_later, there}
 
 -- a list behind a prefix, from a place in the prefix on
@@ -94,8 +94,8 @@ module _ {w v : World} (s : Follows w v) where
         long = ok.long;
         then_long = length_later from ok.place ok.long (omega (arith, within)) ok.then_long;
         low = omega (arith, ok.low, prefix_length o.2);
-        on_all = subst (λ (front : List Entry). Each (λ node. (b : BackupState) → IsBackup v node b → IsPrefix front b.log) ok.lists.backups)
-            (sym (take_grows ok.long o.2 ok.low)) (fronts_later s ok.lists.backups (take ok.long ok.l.log) (there s ok.lists ok.given) ok.on_all);
+        on_all = subst (λ (prefix : List Entry). Each (λ node. (b : BackupState) → IsBackup v node b → IsPrefix prefix b.log) ok.lists.backups)
+            (sym (take_grows ok.long o.2 ok.low)) (prefixes_later s ok.lists.backups (take ok.long ok.l.log) (there s ok.lists ok.given) ok.on_all);
         since = since_later inv from version ok.long sent ok.l ok.its_log ok.low ok.since;
       }
 
@@ -109,7 +109,7 @@ module _ {w v : World} (s : Follows w v) where
         its_epoch = ok.its_epoch;
         sources = later.0;
         on_all = subst (λ (es : List Entry). Each (λ node. (f : BackupState) → IsBackup v node f → IsPrefix es f.log) ok.order.backups) (sym (later.2 ok.order.lo ok.order.hi))
-            (fronts_later s ok.order.backups (replay_of ok.order.lo ok.order.hi ok.sources) (there s (lists_of_order from ok.order) (ByRecovery from ok.order ok.sent)) ok.on_all);
+            (prefixes_later s ok.order.backups (replay_of ok.order.lo ok.order.hi ok.sources) (there s (lists_of_order from ok.order) (ByRecovery from ok.order ok.sent)) ok.on_all);
       }
 
   pub recovered_said_later : Invariant w → (from : NodeId) (r : Recovered) → RecoveredSaid w from r → RecoveredSaid v from r
@@ -120,10 +120,10 @@ module _ {w v : World} (s : Follows w v) where
       record {
         holds = recovered_later inv from r.epoch ok.holds;
         its_part = ok.its_part;
-        front = ok.front;
+        prefix = ok.prefix;
         is_replay = ok.is_replay ∙ sym (later.2 ok.holds.order.lo ok.holds.order.hi);
         l = o.0;
         its_log = o.1;
         began = prefix_trans ok.began o.2;
-        reach = reach_later s from ok.holds.order.version (length ok.front) o.0 o.1 (omega (arith, prefix_length ok.began, prefix_length o.2)) ok.reach;
+        reach = reach_later s from ok.holds.order.version (length ok.prefix) o.0 o.1 (omega (arith, prefix_length ok.began, prefix_length o.2)) ok.reach;
       }

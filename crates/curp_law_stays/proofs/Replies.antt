@@ -53,10 +53,10 @@ module _ {w v : World} (s : Follows w v) where
   abbrev pub early_later : (from : NodeId) (r : Reply) → EarlySaid w from r → EarlySaid v from r
   early_later from r ok =
       let o = serving_later s from ok.m ok.serves in
-      let front = o.2.life.log in
+      let prefix = o.2.life.log in
       let low = at_within ok.m.log ok.index _ ok.stands in
       let part = ok.lists.part in
-      let same : take ok.index o.0.log ≡ take ok.index ok.m.log = take_grows ok.index front (omega (arith, low)) in
+      let same : take ok.index o.0.log ≡ take ok.index ok.m.log = take_grows ok.index prefix (omega (arith, low)) in
       let its : Logged = record { log = o.0.log; round = o.0.round } in
       record {
         lists = ok.lists;
@@ -68,16 +68,16 @@ module _ {w v : World} (s : Follows w v) where
         index = ok.index;
         request = ok.request;
         acknowledged = ok.acknowledged;
-        stands = prefix_at front ok.index _ ok.stands;
+        stands = prefix_at prefix ok.index _ ok.stands;
         its_id = ok.its_id;
         its_answer = in_range part (λ lo hi. answer_after lo hi (take ok.index o.0.log) ok.request.command ≡ r.answer)
             (subst (λ (es : List Entry). answer_after (lo_of w part) (hi_of w part) es ok.request.command ≡ r.answer) (sym same) ok.its_answer);
         free = o.2.life.free ok.index ok.free;
         synced = ok.synced;
         below = ok.below;
-        apart = λ k e above under at. ok.apart k e above under (prefix_back front k e (omega (arith, under, low)) at);
+        apart = λ k e above under at. ok.apart k e above under (prefix_back prefix k e (omega (arith, under, low)) at);
         stored = many_later s ok.lists ok.adopted.given ok.synced ok.stored;
-        above = reach_later s from (r.version + 1) (ok.index + 1) its (record { m = Serving o.0; is = o.1; its_log = refl }) (omega (arith, low, prefix_length front)) ok.above;
+        above = reach_later s from (r.version + 1) (ok.index + 1) its (record { m = Serving o.0; is = o.1; its_log = refl }) (omega (arith, low, prefix_length prefix)) ok.above;
       }
 
   reply_kind : (from : NodeId) (r : Reply) (b : Bool) → ReplyHolds w from r b → ReplyHolds v from r b
@@ -148,21 +148,21 @@ module _ {w v : World} (s : Follows w v) where
   -- ---- reads that are answered at once
 
   told_within_later : (from : NodeId) (place : ℕ) (es fs : List Entry) (long : ℕ) → IsPrefix es fs → ToldWithin w from place es long → ToldWithin v from place fs long
-  told_within_later from place es fs long front ok = record {
+  told_within_later from place es fs long prefix ok = record {
     within = omega (arith, ok.within, prefix_length s.grows.sent);
     appends = λ k reach below r. ok.appends k reach below (record { to = r.to; append = r.append; sent = prefix_back s.grows.sent k _ (omega (arith, below, ok.within)) r.sent; reach_is = r.reach_is });
     replies = λ k r below at early.
         let o = ok.replies k r below (prefix_back s.grows.sent k _ (omega (arith, below, ok.within)) at) early in
-        record { index = o.index; request = o.request; acknowledged = o.acknowledged; stands = prefix_at front o.index _ o.stands; its_id = o.its_id; below = o.below };
+        record { index = o.index; request = o.request; acknowledged = o.acknowledged; stands = prefix_at prefix o.index _ o.stands; its_id = o.its_id; below = o.below };
   }
 
   pub quick_later : (place : ℕ) (from to : NodeId) (q : Quick) → QuickSaid w place from to q → QuickSaid v place from to q
   quick_later place from to q ok =
       let o = serving_later s from ok.m ok.serves in
-      let front = o.2.life.log in
+      let prefix = o.2.life.log in
       let part = ok.lists.part in
       let its : Logged = record { log = o.0.log; round = o.0.round } in
-      let at_long : take ok.long o.0.log ≡ take ok.long ok.m.log = take_grows ok.long front ok.low in
+      let at_long : take ok.long o.0.log ≡ take ok.long ok.m.log = take_grows ok.long prefix ok.low in
       record {
         lists = ok.lists;
         adopted = adopted_later s ok.adopted;
@@ -177,14 +177,14 @@ module _ {w v : World} (s : Follows w v) where
         serves = o.1;
         captured = omega (arith, ok.captured, o.2.life.captured);
         long = ok.long;
-        low = omega (arith, ok.low, prefix_length front);
-        then_long = told_within_later from place ok.m.log o.0.log ok.long front ok.then_long;
+        low = omega (arith, ok.low, prefix_length prefix);
+        then_long = told_within_later from place ok.m.log o.0.log ok.long prefix ok.then_long;
         synced = ok.synced;
         below = ok.below;
-        apart = λ k e above under at. ok.apart k e above under (prefix_back front k e (omega (arith, under, ok.low)) at);
+        apart = λ k e above under at. ok.apart k e above under (prefix_back prefix k e (omega (arith, under, ok.low)) at);
         owned = in_range part (λ lo hi. is_owned (meaning lo hi (take ok.long o.0.log)).owned (hash_of ok.key) ≡ true)
             (subst (λ (es : List Entry). is_owned (meaning (lo_of w part) (hi_of w part) es).owned (hash_of ok.key) ≡ true) (sym at_long) ok.owned);
         its_answer = in_range part (λ lo hi. answer_after lo hi (take ok.long o.0.log) (Get ok.key) ≡ q.answer)
             (subst (λ (es : List Entry). answer_after (lo_of w part) (hi_of w part) es (Get ok.key) ≡ q.answer) (sym at_long) ok.its_answer);
-        reach = reach_later s from q.version ok.synced its (record { m = Serving o.0; is = o.1; its_log = refl }) (omega (arith, ok.below, ok.low, prefix_length front)) ok.reach;
+        reach = reach_later s from q.version ok.synced its (record { m = Serving o.0; is = o.1; its_log = refl }) (omega (arith, ok.below, ok.low, prefix_length prefix)) ok.reach;
       }

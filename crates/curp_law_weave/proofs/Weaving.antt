@@ -329,8 +329,8 @@ fold_above : (a : ℕ) (xs : List ℕ) → a ≤ fold ◌+◌ a xs
 fold_above a [] = omega arith
 fold_above a (x ∷ xs) = let r = fold_above (a + x) xs in omega (arith, r)
 
-sum_front : (xs ys : List Message) → sum (map weight_of xs) ≤ sum (map weight_of (xs ++ ys))
-sum_front xs ys =
+sum_prefix : (xs ys : List Message) → sum (map weight_of xs) ≤ sum (map weight_of (xs ++ ys))
+sum_prefix xs ys =
     let s : sum (map weight_of (xs ++ ys)) ≡ fold ◌+◌ (sum (map weight_of xs)) (map weight_of ys) = ap sum (map-append weight_of xs ys) ∙ fold-append ◌+◌ 0 (map weight_of xs) (map weight_of ys) in
     let a = fold_above (sum (map weight_of xs)) (map weight_of ys) in
     omega (arith, s, a)
@@ -455,8 +455,8 @@ module _ (journals : List Journal) (h : Header) (are : (i : ℕ) (j : Journal) �
       let all : of p.node (before ++ p ∷ ps) ≡ turns_of j = subst (λ (n : NodeId). of n (before ++ p ∷ ps) ≡ turns_of j) known.0.its_name (whole known.0.place j known.0.stands) in
       let turns : of p.node before ++ p.turn ∷ of p.node ps ≡ turns_of j = sym (of-append p.node before (p ∷ ps) ∙ ap (λ ts. of p.node before ++ ts) (of_first p ps)) ∙ all in
       let deed : deed_of w s ≡ deed_for p = ap (λ ms. deed_by ms s) woven.messages_are ∙ legal.0 in
-      let front = sum_front (said before) (said (p ∷ ps)) in
-      let low : sum (map weight_of (said before)) ≤ weight_limit = omega (arith, front, subst (λ (ms : List Message). sum (map weight_of ms) ≤ weight_limit) (said-append before (p ∷ ps)) light) in
+      let prefix = sum_prefix (said before) (said (p ∷ ps)) in
+      let low : sum (map weight_of (said before)) ≤ weight_limit = omega (arith, prefix, subst (λ (ms : List Message). sum (map weight_of ms) ≤ weight_limit) (said-append before (p ∷ ps)) light) in
       let first = one w before s p.node p.turn (of p.node ps) j woven (are known.0.place j known.0.stands) known.0.its_name deed turns (light_world w (said before) woven.messages_are low) in
       let same : (before ++ p ∷ []) ++ ps ≡ before ++ p ∷ ps = append_assoc before (p ∷ []) ps in (
         first.0,

@@ -26,8 +26,8 @@ how_many_append p [] ys = omega arith
 how_many_append p (x ∷ xs) ys =
     let rest = how_many_append p xs ys in
     let whole = how_many_cons p x (xs ++ ys) in
-    let front = how_many_cons p x xs in
-    omega (arith, rest, whole, front)
+    let prefix = how_many_cons p x xs in
+    omega (arith, rest, whole, prefix)
 
 -- where what passes passes one of two tests, and no more
 pub how_many_both : {A : Type 0} (p q r : A → Bool) → ((x : A) → one (p x) ≡ one (q x) + one (r x)) → (xs : List A) → how_many p xs ≡ how_many q xs + how_many r xs
@@ -57,8 +57,8 @@ how_many_insert p [] (suc i) y = let e = how_many_cons p y [] in omega (arith, e
 how_many_insert p (x ∷ xs) (suc i) y =
     let rest = how_many_insert p xs i y in
     let whole = how_many_cons p x (insert xs i y) in
-    let front = how_many_cons p x xs in
-    omega (arith, rest, whole, front)
+    let prefix = how_many_cons p x xs in
+    omega (arith, rest, whole, prefix)
 
 -- ---- epochs in order
 

@@ -99,7 +99,7 @@ same_next : (a b : ℕ) → ((a + 1) == (b + 1)) ≡ (a == b)
 same_next a b = grind (arith, nat_tests)
 
 its_number : (part earlier : ℕ) (c : Cut) (b : Bool) → is_cut_at part earlier c ≡ b → cuts_at part (earlier + 1) (mark_of c) ≡ b
-its_number part earlier c b e = ap (λ r. (c.tenure.part == part) && r) (same_next c.earlier earlier) ∙ e
+its_number part earlier c b e = ap (λ r. (c.term.part == part) && r) (same_next c.earlier earlier) ∙ e
 
 -- a mark that comes late stands before the adoption of its number
 put_in_turn : (part earlier n : ℕ) (cuts : List Cut) (slots : List Slot) (s : Slot) → AreOfRequests slots → s.dropped ≡ false
@@ -264,13 +264,13 @@ counted : (q : Mark → Bool) (p : Cut → Bool) → ((c : Cut) → q (mark_of c
     → how_many q (marks_from n cuts slots) ≡ how_many p cuts
 counted q p same n [] slots none = ap length (none_passes q (marks_behind n slots) (each_behind (λ (m : Mark). q m ≡ false) n slots none))
 counted q p same n (c ∷ cuts) slots none =
-    let front = how_many_append q (marks_behind n slots) (mark_of c ∷ marks_from (suc n) cuts slots) in
-    let in_front : how_many q (marks_behind n slots) ≡ 0 = ap length (none_passes q (marks_behind n slots) (each_behind (λ (m : Mark). q m ≡ false) n slots none)) in
+    let prefix = how_many_append q (marks_behind n slots) (mark_of c ∷ marks_from (suc n) cuts slots) in
+    let in_prefix : how_many q (marks_behind n slots) ≡ 0 = ap length (none_passes q (marks_behind n slots) (each_behind (λ (m : Mark). q m ≡ false) n slots none)) in
     let itself = how_many_cons q (mark_of c) (marks_from (suc n) cuts slots) in
     let its = how_many_cons p c cuts in
     let rest = counted q p same (suc n) cuts slots none in
     let one_same = ap one (same c) in
-    omega (arith, front, in_front, itself, its, rest, one_same)
+    omega (arith, prefix, in_prefix, itself, its, rest, one_same)
 
 pub adoptions_counted : (part : ℕ) (cuts : List Cut) (slots : List Slot) → AreOfRequests slots → adoptions part (marks_from 0 cuts slots) ≡ how_many (is_cut_of part) cuts
 adoptions_counted part cuts slots h =

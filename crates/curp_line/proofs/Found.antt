@@ -64,13 +64,13 @@ how_many_map p f (x ∷ xs) = go (p (f x)) (how_many_map p f xs)
     go true rest = ap suc rest
     go false rest = rest
 
-none_at : (part earlier : ℕ) (cuts : List Cut) → Each (λ (c : Cut). c.tenure.part ≡ part → c.earlier < earlier) cuts → first_place (is_cut_at part earlier) cuts ≡ None
+none_at : (part earlier : ℕ) (cuts : List Cut) → Each (λ (c : Cut). c.term.part ≡ part → c.earlier < earlier) cuts → first_place (is_cut_at part earlier) cuts ≡ None
 none_at part earlier [] h = refl
 none_at part earlier (c ∷ cuts) h =
     let other : is_cut_at part earlier c ≡ false = not_here c h.0 in
     rw other (ap (option_map suc) (none_at part earlier cuts h.1))
   where
-    not_here : (c : Cut) → (c.tenure.part ≡ part → c.earlier < earlier) → is_cut_at part earlier c ≡ false
+    not_here : (c : Cut) → (c.term.part ≡ part → c.earlier < earlier) → is_cut_at part earlier c ≡ false
     not_here c h = grind (arith, nat_tests, h)
 
 module _ (place : ℕ → ℕ → Option ℕ) (epochs : List CutEpoch) (cuts : List Cut) (f : AreFound place epochs cuts) where
@@ -85,24 +85,24 @@ module _ (place : ℕ → ℕ → Option ℕ) (epochs : List CutEpoch) (cuts : L
   place_found part earlier = ap (λ r. unwrap_or r (length cuts)) (f.placed part earlier) ∙ first_or_len (is_cut_at part earlier) cuts
 
   -- one adoption more, behind those of its partition
-  pub found_push : (place' : ℕ → ℕ → Option ℕ) (epochs' : List CutEpoch) (c : Cut) → c.earlier ≡ how_many (is_cut_of c.tenure.part) cuts
+  pub found_push : (place' : ℕ → ℕ → Option ℕ) (epochs' : List CutEpoch) (c : Cut) → c.earlier ≡ how_many (is_cut_of c.term.part) cuts
       → ((part earlier : ℕ) → place' part earlier ≡ (if is_cut_at part earlier c then Some (length cuts) else place part earlier))
       → ((test : CutEpoch → Bool) → how_many test epochs' ≡ how_many test epochs + one (test (epoch_of c)))
       → EpochsAscend epochs' → AreFound place' epochs' (cuts ++ c ∷ [])
   found_push place' epochs' c number places counts ascend = record {
     placed = λ part earlier. places part earlier ∙ go part earlier (is_cut_at part earlier c) refl ∙ sym (first_place_push (is_cut_at part earlier) cuts c);
-    numbered = λ part. Each-append (λ (d : Cut). d.tenure.part ≡ part → d.earlier < how_many (is_cut_of part) (cuts ++ c ∷ [])) cuts (c ∷ [])
-        (Each-weaker (λ (d : Cut). d.tenure.part ≡ part → d.earlier < how_many (is_cut_of part) cuts) (λ (d : Cut). d.tenure.part ≡ part → d.earlier < how_many (is_cut_of part) (cuts ++ c ∷ []))
+    numbered = λ part. Each-append (λ (d : Cut). d.term.part ≡ part → d.earlier < how_many (is_cut_of part) (cuts ++ c ∷ [])) cuts (c ∷ [])
+        (Each-weaker (λ (d : Cut). d.term.part ≡ part → d.earlier < how_many (is_cut_of part) cuts) (λ (d : Cut). d.term.part ≡ part → d.earlier < how_many (is_cut_of part) (cuts ++ c ∷ []))
         (λ d h e. let l = h e in let more = how_many_append (is_cut_of part) cuts (c ∷ []) in omega (arith, l, more)) cuts (f.numbered part))
         (λ e. here part e, tt);
     counted = λ test. counts test ∙ sym (ap (how_many test) (map-append epoch_of cuts (c ∷ [])) ∙ how_many_append test (map epoch_of cuts) (epoch_of c ∷ []) ∙ rest test);
     ascend = ascend;
   }
     where
-      own : (part : ℕ) → c.tenure.part ≡ part → one (is_cut_of part c) ≡ 1
+      own : (part : ℕ) → c.term.part ≡ part → one (is_cut_of part c) ≡ 1
       own part e = grind (arith, nat_tests)
 
-      its_part : (part earlier : ℕ) → is_cut_at part earlier c ≡ true → c.tenure.part ≡ part
+      its_part : (part earlier : ℕ) → is_cut_at part earlier c ≡ true → c.term.part ≡ part
       its_part part earlier e = grind (arith, nat_tests)
 
       its_number : (part earlier : ℕ) → is_cut_at part earlier c ≡ true → c.earlier ≡ earlier
@@ -111,7 +111,7 @@ module _ (place : ℕ → ℕ → Option ℕ) (epochs : List CutEpoch) (cuts : L
       none_yet : (part earlier : ℕ) → is_cut_at part earlier c ≡ true → first_place (is_cut_at part earlier) cuts ≡ None
       none_yet part earlier e =
           let all : earlier ≡ how_many (is_cut_of part) cuts = sym (its_number part earlier e) ∙ number ∙ ap (λ (n : ℕ). how_many (is_cut_of n) cuts) (its_part part earlier e) in
-          none_at part earlier cuts (subst (λ (n : ℕ). Each (λ (d : Cut). d.tenure.part ≡ part → d.earlier < n) cuts) (sym all) (f.numbered part))
+          none_at part earlier cuts (subst (λ (n : ℕ). Each (λ (d : Cut). d.term.part ≡ part → d.earlier < n) cuts) (sym all) (f.numbered part))
 
       go : (part earlier : ℕ) (b : Bool) → is_cut_at part earlier c ≡ b
           → (if b then Some (length cuts) else place part earlier) ≡ or_else (first_place (is_cut_at part earlier) cuts) (if b then Some (length cuts) else None)
@@ -120,7 +120,7 @@ module _ (place : ℕ → ℕ → Option ℕ) (epochs : List CutEpoch) (cuts : L
           rw none refl
       go part earlier false e = f.placed part earlier ∙ sym (or_none (first_place (is_cut_at part earlier) cuts))
 
-      here : (part : ℕ) → c.tenure.part ≡ part → c.earlier < how_many (is_cut_of part) (cuts ++ c ∷ [])
+      here : (part : ℕ) → c.term.part ≡ part → c.earlier < how_many (is_cut_of part) (cuts ++ c ∷ [])
       here part e =
           let more = how_many_append (is_cut_of part) cuts (c ∷ []) in
           let itself = how_many_cons (is_cut_of part) c [] in

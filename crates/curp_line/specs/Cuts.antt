@@ -8,7 +8,7 @@ use Rattle.curp_line.specs.declared.epochs.CutEpoch.{CutEpoch}
 
 -- its mark
 abbrev pub mark_of : Cut → Mark
-mark_of c = cut_mark c.tenure.master c.tenure.part c.tenure.epoch (c.earlier + 1) c.length
+mark_of c = cut_mark c.term.master c.term.part c.term.epoch (c.earlier + 1) c.length
 
 -- how many pass a test
 abbrev pub how_many : {A : Type 0} → (A → Bool) → List A → ℕ
@@ -18,15 +18,15 @@ how_many p xs = length (filter p xs)
 
 -- it is one of the partition
 abbrev pub is_cut_of : ℕ → Cut → Bool
-is_cut_of part c = c.tenure.part == part
+is_cut_of part c = c.term.part == part
 
 -- it is one of the partition, up to an epoch
 abbrev pub is_cut_to : ℕ → ℕ → Cut → Bool
-is_cut_to part epoch c = (c.tenure.part == part) && nat_le c.tenure.epoch epoch
+is_cut_to part epoch c = (c.term.part == part) && nat_le c.term.epoch epoch
 
 -- it is the one of the partition behind so many
 abbrev pub is_cut_at : ℕ → ℕ → Cut → Bool
-is_cut_at part earlier c = (c.tenure.part == part) && (c.earlier == earlier)
+is_cut_at part earlier c = (c.term.part == part) && (c.earlier == earlier)
 
 -- ---- tests of epochs
 
@@ -53,7 +53,7 @@ EpochsAscend (e ∷ es) = Each (λ f. is_up_to f.part f.epoch e ≡ true) es × 
 -- ---- how they are found
 
 abbrev pub epoch_of : Cut → CutEpoch
-epoch_of c = record { part = c.tenure.part; epoch = c.tenure.epoch }
+epoch_of c = record { part = c.term.part; epoch = c.term.epoch }
 
 -- the first place of what passes a test
 abbrev pub first_place : {A : Type 0} → (A → Bool) → List A → Option ℕ
@@ -63,6 +63,6 @@ first_place p (x ∷ xs) = if p x then Some 0 else option_map suc (first_place p
 -- each is found by its number, which is behind those of its partition before it, and its epoch is among those in order
 pub record AreFound (place : ℕ → ℕ → Option ℕ) (epochs : List CutEpoch) (cuts : List Cut) : Type 0 where
   pub placed : (part earlier : ℕ) → place part earlier ≡ first_place (is_cut_at part earlier) cuts
-  pub numbered : (part : ℕ) → Each (λ c. c.tenure.part ≡ part → c.earlier < how_many (is_cut_of part) cuts) cuts
+  pub numbered : (part : ℕ) → Each (λ c. c.term.part ≡ part → c.earlier < how_many (is_cut_of part) cuts) cuts
   pub counted : (test : CutEpoch → Bool) → how_many test epochs ≡ how_many test (map epoch_of cuts)
   pub ascend : EpochsAscend epochs

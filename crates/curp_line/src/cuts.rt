@@ -3,7 +3,7 @@ ghost use Rattle.std.specs.List.{position_or_len};
 ghost use Rattle.curp_line.specs.Cuts.{how_many, is_cut_at, is_cut_of, is_cut_to};
 
 use crate::epochs::{CutEpoch, add_epoch, count_of, count_to};
-use crate::tenure::Tenure;
+use crate::term::Term;
 use curp_base::{NoMemory, Reserved};
 use std::alloc::Global;
 use std::collections::HashMap;
@@ -12,7 +12,7 @@ use std::marker::Model;
 /// An adoption, before or behind which marks stand. It is of no request.
 #[derive(Clone, Copy)]
 pub struct Cut {
-    pub tenure: Tenure,
+    pub term: Term,
     /// How often the partition was adopted before.
     pub earlier: usize,
     /// The length of the log that was recovered.
@@ -81,22 +81,22 @@ impl Cuts {
     }
 
     /// Adds an adoption of the partition behind the others. It takes no memory, since there is room.
-    pub fn add(&mut self, tenure: Tenure, length: u64)
+    pub fn add(&mut self, term: Term, length: u64)
         requires { 1 ≤ self.old.spare }
         ensures cuts { self.new.cuts ≡ self.old.cuts ++ record {
-          tenure = tenure;
-          earlier = how_many (is_cut_of tenure.part) self.old.cuts;
+          term = term;
+          earlier = how_many (is_cut_of term.part) self.old.cuts;
           length = length;
         } ∷ [] }
         ensures spare { self.old.spare ≤ self.new.spare + 1 }
     {
-        let Tenure { part, epoch, .. } = tenure;
+        let Term { part, epoch, .. } = term;
         let earlier = count_of(&self.epochs, part);
         let replaced: Result<_, _> = self.places.insert((part, earlier), self.list.len());
         replaced.unwrap();
         add_epoch(&mut self.epochs, CutEpoch { part, epoch });
         self.list.push(Cut {
-            tenure,
+            term,
             earlier,
             length,
         });

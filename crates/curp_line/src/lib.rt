@@ -14,7 +14,7 @@ mod line;
 mod mark;
 mod slot;
 mod slots;
-mod tenure;
+mod term;
 
 pub use line::Line;
-pub use tenure::Tenure;
+pub use term::Term;

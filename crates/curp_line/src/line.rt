@@ -6,7 +6,7 @@ use crate::cuts::Cuts;
 use crate::mark::{KeptMark, MarkPlace};
 use crate::slot::in_order;
 use crate::slots::Slots;
-use crate::tenure::Tenure;
+use crate::term::Term;
 use curp_base::{NoMemory, Shared};
 use curp_cmd::{KeptCommand, Request, RequestId, Standby};
 use curp_msg::Completed;
@@ -78,21 +78,21 @@ impl Line {
 
     /// Adds the mark of an update that the master pushed, at its index in the log. It takes no memory, since there is
     /// room, and looks at no other mark.
-    pub fn executed(&mut self, tenure: Tenure, index: u64, id: RequestId, command: KeptCommand)
+    pub fn executed(&mut self, term: Term, index: u64, id: RequestId, command: KeptCommand)
         requires { 1 ≤ self.old.spare }
         ensures marks { self.new.marks
-            ≡ self.old.marks ++ executed tenure.master tenure.part tenure.epoch index id command ∷ [] }
+            ≡ self.old.marks ++ executed term.master term.part term.epoch index id command ∷ [] }
         ensures spare { self.old.spare ≤ self.new.spare + 1 }
     {
         let place = MarkPlace::Executed { index };
-        self.push(KeptMark::new(tenure, place, id, command));
+        self.push(KeptMark::new(term, place, id, command));
     }
 
     /// Adds the mark of a read whose value the master captured, when its log had that length. It takes no memory, since
     /// there is room, and looks at no other mark.
     pub fn looked(
         &mut self,
-        tenure: Tenure,
+        term: Term,
         capture: u64,
         length: u64,
         id: RequestId,
@@ -100,24 +100,24 @@ impl Line {
     )
         requires { 1 ≤ self.old.spare }
         ensures marks { self.new.marks
-            ≡ self.old.marks ++ looked tenure.master tenure.part tenure.epoch capture length id command ∷ [] }
+            ≡ self.old.marks ++ looked term.master term.part term.epoch capture length id command ∷ [] }
         ensures spare { self.old.spare ≤ self.new.spare + 1 }
     {
         let place = MarkPlace::Looked { capture, length };
-        self.push(KeptMark::new(tenure, place, id, command));
+        self.push(KeptMark::new(term, place, id, command));
     }
 
     /// Adds the mark of a read that the master answered at once: before the partition's first adoption behind that of the
     /// master, and to the end where there is none. It takes no memory, since there is room, and looks at no other mark.
-    pub fn quick(&mut self, tenure: Tenure, capture: u64, id: RequestId, command: KeptCommand)
+    pub fn quick(&mut self, term: Term, capture: u64, id: RequestId, command: KeptCommand)
         requires { 1 ≤ self.old.spare }
         ensures marks { self.new.marks
-            ≡ with_quick (quick tenure.master tenure.part tenure.epoch capture id command) self.old.marks }
+            ≡ with_quick (quick term.master term.part term.epoch capture id command) self.old.marks }
         ensures spare { self.old.spare ≤ self.new.spare + 1 }
     {
-        let cuts_before = self.cuts.place_behind(tenure.part, tenure.epoch);
+        let cuts_before = self.cuts.place_behind(term.part, term.epoch);
         let place = MarkPlace::Quick { capture };
-        let mark = KeptMark::new(tenure, place, id, command);
+        let mark = KeptMark::new(term, place, id, command);
         self.slots.push(mark, cuts_before);
     }
 
@@ -138,7 +138,7 @@ impl Line {
     pub fn adopted(
         &mut self,
         standby: &mut Standby,
-        tenure: Tenure,
+        term: Term,
         cut: u64,
         replayed: &[Shared<Request>],
     )
@@ -146,12 +146,12 @@ impl Line {
         requires ready { length replayed.now ≤ standby.old }
         requires fits { cut + length replayed.now < 2 ^ 64 }
         ensures marks { self.new.marks
-            ≡ adopted tenure.master tenure.part tenure.epoch cut replayed.now self.old.marks }
+            ≡ adopted term.master term.part term.epoch cut replayed.now self.old.marks }
         ensures spare { self.old.spare ≤ self.new.spare + 1 + length replayed.now }
     {
-        self.drop_past(tenure.part, cut);
-        self.cut(tenure, cut);
-        self.replay(standby, tenure, cut, replayed);
+        self.drop_past(term.part, cut);
+        self.cut(term, cut);
+        self.replay(standby, term, cut, replayed);
     }
 
     /// The requests in the order that the world shows: all updates, and each completed read where its value was captured
@@ -173,13 +173,13 @@ impl Line {
         self.slots.push(mark, cuts_before);
     }
 
-    fn cut(&mut self, tenure: Tenure, length: u64)
+    fn cut(&mut self, term: Term, length: u64)
         requires { 1 ≤ self.old.spare }
         ensures marks { self.new.marks
-            ≡ self.old.marks ++ cut_mark tenure.master tenure.part tenure.epoch (adoptions tenure.part self.old.marks + 1) length ∷ [] }
+            ≡ self.old.marks ++ cut_mark term.master term.part term.epoch (adoptions term.part self.old.marks + 1) length ∷ [] }
         ensures spare { self.old.spare ≤ self.new.spare + 1 }
     {
-        self.cuts.add(tenure, length);
+        self.cuts.add(term, length);
     }
 
     fn drop_past(&mut self, part: u32, cut: u64)
@@ -192,7 +192,7 @@ impl Line {
     fn replay(
         &mut self,
         standby: &mut Standby,
-        tenure: Tenure,
+        term: Term,
         cut: u64,
         replayed: &[Shared<Request>],
     )
@@ -200,13 +200,13 @@ impl Line {
         requires ready { length replayed.now ≤ standby.old }
         requires fits { cut + length replayed.now < 2 ^ 64 }
         ensures marks { self.new.marks
-            ≡ replayed_marks tenure.master tenure.part tenure.epoch cut replayed.now self.old.marks }
+            ≡ replayed_marks term.master term.part term.epoch cut replayed.now self.old.marks }
         ensures spare { self.old.spare ≤ self.new.spare + length replayed.now }
     {
         for (at, request) in replayed.iter().enumerate() {
             if !self.has_completed(&request.id) {
                 let index = cut + at as u64;
-                self.executed(tenure, index, request.id, standby.keep(request));
+                self.executed(term, index, request.id, standby.keep(request));
             }
         }
     }

@@ -2,7 +2,7 @@ ghost use Rattle.std.specs.Prelude.{◌≡◌, true, false};
 ghost use Rattle.curp_model.specs.Marks.{is_dropped, is_flagged, is_shown};
 ghost use Rattle.curp_line.specs.Standing.{place_of};
 
-use crate::tenure::Tenure;
+use crate::term::Term;
 use curp_cmd::{KeptCommand, RequestId};
 use curp_msg::Completed;
 use std::marker::Model;
@@ -21,7 +21,7 @@ pub enum MarkPlace {
 /// A mark that is kept.
 #[derive(Drop)]
 pub struct KeptMark {
-    tenure: Tenure,
+    term: Term,
     place: MarkPlace,
     id: RequestId,
     command: KeptCommand,
@@ -35,9 +35,9 @@ impl Model for KeptMark {
     ghost Value = { Mark };
 
     ghost view = { λ m. record {
-      master = m.tenure.master;
-      part = m.tenure.part;
-      epoch = m.tenure.epoch;
+      master = m.term.master;
+      part = m.term.part;
+      epoch = m.term.epoch;
       place = place_of m.place;
       id = m.id;
       command = m.command;
@@ -47,11 +47,11 @@ impl Model for KeptMark {
 
 impl KeptMark {
     /// A mark whose request hasn't completed.
-    pub fn new(tenure: Tenure, place: MarkPlace, id: RequestId, command: KeptCommand) -> KeptMark
+    pub fn new(term: Term, place: MarkPlace, id: RequestId, command: KeptCommand) -> KeptMark
         ensures { result ≡ record {
-          master = tenure.master;
-          part = tenure.part;
-          epoch = tenure.epoch;
+          master = term.master;
+          part = term.part;
+          epoch = term.epoch;
           place = place_of place;
           id = id;
           command = command;
@@ -59,7 +59,7 @@ impl KeptMark {
         } }
     {
         KeptMark {
-            tenure,
+            term,
             place,
             id,
             command,
@@ -76,7 +76,7 @@ impl KeptMark {
     pub fn part(&self) -> u32
         ensures { result ≡ self.now.part }
     {
-        self.tenure.part
+        self.term.part
     }
 
     pub fn command(&self) -> &KeptCommand
@@ -109,8 +109,8 @@ impl KeptMark {
         match (completed.by, self.place) {
             (None, MarkPlace::Executed { .. }) => true,
             (Some(by), MarkPlace::Looked { capture, .. } | MarkPlace::Quick { capture }) => {
-                self.tenure.master == by.master
-                    && self.tenure.epoch == by.epoch
+                self.term.master == by.master
+                    && self.term.epoch == by.epoch
                     && capture == by.number
             }
             _ => false,
@@ -126,7 +126,7 @@ impl KeptMark {
             MarkPlace::Looked { length, .. } => cut < length,
             MarkPlace::Quick { .. } => false,
         };
-        self.tenure.part == part && !self.completed && is_past
+        self.term.part == part && !self.completed && is_past
     }
 
     /// Whether the order shows it.

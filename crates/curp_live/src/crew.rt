@@ -9,7 +9,7 @@ use curp_desk::{Carry, Desk, Drive, Posts, Work};
 use curp_msg::Core;
 use curp_nodes::{BackupNode, ClientNode, ManagerNode, MasterNode, WitnessNode};
 use curp_ruled::Take;
-use curp_seat::{Chores, Gate, NoChores};
+use curp_seat::{Chores, Observer, NoChores};
 use std::alloc::Global;
 use std::sync::Wait;
 
@@ -17,7 +17,7 @@ use std::sync::Wait;
 #[derive(Drop)]
 pub(crate) struct Floor<'s, G> {
     pub board: &'s Board,
-    pub gate: &'s G,
+    pub observer: &'s G,
 }
 
 /// Whose steps a worker makes, with what the node is ordered by itself.
@@ -39,7 +39,7 @@ pub(crate) struct Worker<'s, 'w, G> {
     pub duty: Duty<'s, 'w>,
 }
 
-impl<'s, 'w, G: Gate> Work for Worker<'s, 'w, G> {
+impl<'s, 'w, G: Observer> Work for Worker<'s, 'w, G> {
     fn work<R: Wait>(self, rt: &R, take: Take) {
         let floor = self.floor;
         match self.duty {
@@ -57,7 +57,7 @@ impl<'s, 'w, G: Gate> Work for Worker<'s, 'w, G> {
     }
 }
 
-impl<'s, G: Gate> Floor<'s, G> {
+impl<'s, G: Observer> Floor<'s, G> {
     fn serve<R: Wait, N: Core + Drop, C: Chores + Drop>(
         &self,
         rt: &R,
@@ -70,7 +70,7 @@ impl<'s, G: Gate> Floor<'s, G> {
             speaker,
             board: self.board,
         };
-        desk.work(rt, self.gate, take, chores, &teller);
+        desk.work(rt, self.observer, take, chores, &teller);
     }
 }
 

@@ -11,39 +11,39 @@ use curp_base::NoMemory;
 use curp_cmd::Command;
 use curp_desk::run_crew;
 use curp_gather::Journals;
-use curp_seat::Gate;
+use curp_seat::Observer;
 use curp_words::LivePlan;
 use std::alloc::Global;
 use std::sync::Wait;
 use std::thread::Threads;
 
 /// Runs the nodes of a plan until the work is done, and gives their journals.
-pub(crate) fn once<R: Threads + Wait + Sync, G: Gate + Sync>(
+pub(crate) fn once<R: Threads + Wait + Sync, G: Observer + Sync>(
     rt: &R,
     alloc: Global,
     room: u32,
     plan: &LivePlan,
     work: &[Vec<Command>],
-    gate: &G,
+    observer: &G,
 ) -> Result<Journals, NoMemory>
     requires room { 1 ≤ room }
     requires plan { IsLivePlan plan.now }
 {
     let nodes = LiveNodes::opening(alloc, &plan.header(), plan.recoveries)?;
     let desks = Desks::new(alloc, nodes)?;
-    run_all(rt, alloc, room, plan, work, &desks, gate)?;
+    run_all(rt, alloc, room, plan, work, &desks, observer)?;
     desks.into_journals(alloc, plan)
 }
 
 /// Runs all nodes until the run ends.
-fn run_all<R: Threads + Wait + Sync, G: Gate + Sync>(
+fn run_all<R: Threads + Wait + Sync, G: Observer + Sync>(
     rt: &R,
     alloc: Global,
     room: u32,
     plan: &LivePlan,
     work: &[Vec<Command>],
     desks: &Desks,
-    gate: &G,
+    observer: &G,
 ) -> Result<(), NoMemory>
     requires room { 1 ≤ room }
     requires plan { IsLivePlan plan.now }
@@ -51,7 +51,7 @@ fn run_all<R: Threads + Wait + Sync, G: Gate + Sync>(
     let board = Board::new(alloc, plan.clients)?;
     let floor = Floor {
         board: &board,
-        gate,
+        observer,
     };
     let members = members(alloc, &floor, desks, work)?;
     let driver = Driver {

@@ -11,36 +11,36 @@ use curp_cmd::Command;
 use curp_desk::ROOM;
 use curp_gather::Journals;
 use curp_gather_ruled::Ruled;
-use curp_seat::Gate;
+use curp_seat::Observer;
 use curp_words::LivePlan;
 use std::alloc::Global;
 use std::sync::Wait;
 use std::thread::Threads;
 
 /// Runs the nodes of a plan on threads until each client has done its list of `work`, and gives their journals. A thread
-/// that can't be made is want of memory.
-pub fn live<R: Threads + Wait + Sync, G: Gate + Sync>(
+/// that can't be made is running out of memory.
+pub fn live<R: Threads + Wait + Sync, G: Observer + Sync>(
     rt: &R,
     alloc: Global,
     plan: &LivePlan,
     work: &[Vec<Command>],
-    gate: &G,
+    observer: &G,
 ) -> Result<Ruled, NoMemory>
     requires plan { IsLivePlan plan.now }
     requires work { length work.now ≡ plan.now.clients }
     ensures { IfOk result (IsLiveRun plan.now (map (λ list. list.items) work.now)) }
 {
-    live_in_rooms(rt, alloc, ROOM, plan, work, gate)
+    live_in_rooms(rt, alloc, ROOM, plan, work, observer)
 }
 
 /// The same, with room for so many parcels in each inbox. Any room does.
-pub fn live_in_rooms<R: Threads + Wait + Sync, G: Gate + Sync>(
+pub fn live_in_rooms<R: Threads + Wait + Sync, G: Observer + Sync>(
     rt: &R,
     alloc: Global,
     room: u32,
     plan: &LivePlan,
     work: &[Vec<Command>],
-    gate: &G,
+    observer: &G,
 ) -> Result<Ruled, NoMemory>
     requires room { 1 ≤ room }
     requires plan { IsLivePlan plan.now }
@@ -48,7 +48,7 @@ pub fn live_in_rooms<R: Threads + Wait + Sync, G: Gate + Sync>(
     ensures { IfOk result (IsLiveRun plan.now (map (λ list. list.items) work.now)) }
 {
     for _ in rt.forever() {
-        if let Some(ruled) = tried(rt, alloc, room, plan, work, gate)? {
+        if let Some(ruled) = tried(rt, alloc, room, plan, work, observer)? {
             return Ok(ruled);
         }
     }
@@ -56,20 +56,20 @@ pub fn live_in_rooms<R: Threads + Wait + Sync, G: Gate + Sync>(
 }
 
 // One run. None where the journals that were taken of its nodes aren't those of a ruled run of the plan (`judged`).
-fn tried<R: Threads + Wait + Sync, G: Gate + Sync>(
+fn tried<R: Threads + Wait + Sync, G: Observer + Sync>(
     rt: &R,
     alloc: Global,
     room: u32,
     plan: &LivePlan,
     work: &[Vec<Command>],
-    gate: &G,
+    observer: &G,
 ) -> Result<Option<Ruled>, NoMemory>
     requires room { 1 ≤ room }
     requires plan { IsLivePlan plan.now }
     requires work { length work.now ≡ plan.now.clients }
     ensures { IfOk result (λ tried. IfSome tried (IsLiveRun plan.now (map (λ list. list.items) work.now))) }
 {
-    let taken = once(rt, alloc, room, plan, work, gate)?;
+    let taken = once(rt, alloc, room, plan, work, observer)?;
     judged(alloc, plan, work, taken)
 }
 

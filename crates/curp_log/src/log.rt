@@ -100,7 +100,7 @@ impl Log {
     }
 
     /// Makes room for entries that take so much, by `curp_cmd::room`. The oldest entries are packed first, so that fewer than
-    /// 128 aren't, or else one of the first 64 of those has no spelling.
+    /// 128 aren't, or else one of the first 64 of those has no encoding.
     pub fn reserve(&mut self, units: u64) -> Result<(), NoMemory>
         ensures lo { self.new.lo ≡ self.old.lo }
         ensures hi { self.new.hi ≡ self.old.hi }
@@ -140,7 +140,7 @@ impl Log {
         self.entries.len()
     }
 
-    /// How many of the oldest entries are packed, and their spellings, one behind the other.
+    /// How many of the oldest entries are packed, and their encodings, one behind the other.
     pub fn packed(&self) -> (u64, &[u8])
         ensures { IsPackedPart self.now.entries result.0 result.1.now }
     {

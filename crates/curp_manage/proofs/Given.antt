@@ -6,9 +6,9 @@ use Rattle.curp_disk.specs.declared.disk.Did.TheVariants as did
 use Rattle.curp_durable.proofs.Standings.{after-append, after_taken}
 use Rattle.curp_durable.specs.Journal.{HasEncoding}
 use Rattle.curp_durable.specs.Lone.{done_by}
-use Rattle.curp_durable.specs.Running.{AllMade, MadeUntil, calls_for, gate_behind}
+use Rattle.curp_durable.specs.Running.{AllMade, MadeUntil, calls_for, commit_behind}
 use Rattle.curp_durable.specs.Standing.{Standing, after, begun, moved_by, number_of, stepped, taken}
-use Rattle.curp_durable.specs.Stopping.{IsStopped, StopSynced, StopWrote, kept_gate, kept_inputs}
+use Rattle.curp_durable.specs.Stopping.{IsStopped, StopSynced, StopWrote, kept_commit, kept_inputs}
 use Rattle.curp_durable.specs.Value.{DurableParts}
 use Rattle.curp_journal.specs.Given.{given}
 use Rattle.curp_journal.specs.Journal.{next_stamp}
@@ -92,27 +92,27 @@ module _ (h : Header) (old : DurableParts ManagerState StopParts) (crash : Optio
   stays : (move.refused == 0) ≡ false → stepped manager_machine old.stand a ≡ old.stand
   stays some = cond-false (number_of manager_machine old.stand a == 0) (moved_by manager_machine old.stand a) old.stand (as_number false some)
 
-  grows : (move.refused == 0) ≡ true → gate_behind old.gate takes ≤ old.gate + 128
-  grows zero = omega (arith, small.short, ap (gate_behind old.gate) (takes_it zero))
+  grows : (move.refused == 0) ≡ true → commit_behind old.commit takes ≤ old.commit + 128
+  grows zero = omega (arith, small.short, ap (commit_behind old.commit) (takes_it zero))
 
   -- ---- and answers
 
-  module _ (new : DurableParts ManagerState StopParts) (state : new.stand ≡ stepped manager_machine old.stand a) (gate : new.gate ≡ gate_behind old.gate takes)
-      (ran : AllMade StopWrote StopSynced (calls_for old.gate takes) old.disk new.disk) (sound : old.disk.armed ≡ None → new.disk.armed ≡ None) where
+  module _ (new : DurableParts ManagerState StopParts) (state : new.stand ≡ stepped manager_machine old.stand a) (commit : new.commit ≡ commit_behind old.commit takes)
+      (ran : AllMade StopWrote StopSynced (calls_for old.commit takes) old.disk new.disk) (sound : old.disk.armed ≡ None → new.disk.armed ≡ None) where
     -- an input that is kept wasn't to be stopped
     no_crash : (move.refused == 0) ≡ true → crash ≡ None
     no_crash zero = by crash refl managed.at_call
       where
-        all : AllMade StopWrote StopSynced (calls_for old.gate (a ∷ [])) old.disk new.disk
-        all = subst (λ (l : List Arrived). AllMade StopWrote StopSynced (calls_for old.gate l) old.disk new.disk) (takes_it zero) ran
+        all : AllMade StopWrote StopSynced (calls_for old.commit (a ∷ [])) old.disk new.disk
+        all = subst (λ (l : List Arrived). AllMade StopWrote StopSynced (calls_for old.commit l) old.disk new.disk) (takes_it zero) ran
 
         by : (c : Option Crash) → crash ≡ c → IsAtCall c → c ≡ None
         by None is at = refl
-        by (Some c) is at = absurd (not_all (calls_for old.gate (a ∷ [])) old.disk new.disk c.call (managed.armed ∙ ap stop_call is) at.0 at.1 all)
+        by (Some c) is at = absurd (not_all (calls_for old.commit (a ∷ [])) old.disk new.disk c.call (managed.armed ∙ ap stop_call is) at.0 at.1 all)
 
-    short_after : (zero : Bool) → (move.refused == 0) ≡ zero → new.gate ≤ 36 + 128 * new.stand.count
-    short_after true is = omega (arith, managed.short, gate, grows is, ap (λ (s : Standing ManagerState). s.count) (state ∙ moves is))
-    short_after false is = omega (arith, managed.short, gate, ap (gate_behind old.gate) (takes_none is), ap (λ (s : Standing ManagerState). s.count) (state ∙ stays is))
+    short_after : (zero : Bool) → (move.refused == 0) ≡ zero → new.commit ≤ 36 + 128 * new.stand.count
+    short_after true is = omega (arith, managed.short, commit, grows is, ap (λ (s : Standing ManagerState). s.count) (state ∙ moves is))
+    short_after false is = omega (arith, managed.short, commit, ap (commit_behind old.commit) (takes_none is), ap (λ (s : Standing ManagerState). s.count) (state ∙ stays is))
 
     stamps_after : (zero : Bool) → (move.refused == 0) ≡ zero → new.stand.last ≡ new.stand.count
     stamps_after true is =
@@ -123,7 +123,7 @@ module _ (h : Header) (old : DurableParts ManagerState StopParts) (crash : Optio
     armed_after : (zero : Bool) → (move.refused == 0) ≡ zero → new.disk.armed ≡ stop_call crash
     armed_after true is = sound (managed.armed ∙ ap stop_call (no_crash is)) ∙ ap stop_call (sym (no_crash is))
     armed_after false is =
-        let same : new.disk ≡ old.disk = subst (λ (l : List Arrived). AllMade StopWrote StopSynced (calls_for old.gate l) old.disk new.disk) (takes_none is) ran in
+        let same : new.disk ≡ old.disk = subst (λ (l : List Arrived). AllMade StopWrote StopSynced (calls_for old.commit l) old.disk new.disk) (takes_none is) ran in
         ap (λ (d : StopParts). d.armed) same ∙ managed.armed
 
     pub managed_after : new.spent ≡ false → new.size_limit ≡ old.size_limit → Keeps h new (managed.inputs ++ takes) → IsManaged h new crash
@@ -155,8 +155,8 @@ module _ (h : Header) (old : DurableParts ManagerState StopParts) (crash : Optio
 
   -- ---- and is stopped
 
-  module _ (disk : StopParts) (c : Crash) (at : crash ≡ Some c) (encodes : HasEncoding takes) (ran : MadeUntil StopWrote StopSynced did.Failed (calls_for old.gate takes) old.disk disk) where
-    pub stopped_at : IsStopped old.disk disk old.gate c.call takes
+  module _ (disk : StopParts) (c : Crash) (at : crash ≡ Some c) (encodes : HasEncoding takes) (ran : MadeUntil StopWrote StopSynced did.Failed (calls_for old.commit takes) old.disk disk) where
+    pub stopped_at : IsStopped old.disk disk old.commit c.call takes
     stopped_at =
         let there : IsAtCall (Some c) = subst IsAtCall at managed.at_call in
         record { armed = managed.armed ∙ ap stop_call at; first = there.0; last = there.1; encodes = encodes; ran = ran }
@@ -164,12 +164,12 @@ module _ (h : Header) (old : DurableParts ManagerState StopParts) (crash : Optio
     -- only what is accepted is to be kept
     accepted : (zero : Bool) → (move.refused == 0) ≡ zero → zero ≡ true
     accepted true is = refl
-    accepted false is = absurd (subst (λ (l : List Arrived). MadeUntil StopWrote StopSynced did.Failed (calls_for old.gate l) old.disk disk) (takes_none is) ran)
+    accepted false is = absurd (subst (λ (l : List Arrived). MadeUntil StopWrote StopSynced did.Failed (calls_for old.commit l) old.disk disk) (takes_none is) ran)
 
     is_accepted : (move.refused == 0) ≡ true
     is_accepted = accepted (move.refused == 0) refl
 
-    module _ (again : DurableParts ManagerState StopParts) (opened : IsOpenedAgain h again (kept_inputs managed.inputs takes c.call c.kept) (kept_gate old.gate takes c.call c.kept)) where
+    module _ (again : DurableParts ManagerState StopParts) (opened : IsOpenedAgain h again (kept_inputs managed.inputs takes c.call c.kept) (kept_commit old.commit takes c.call c.kept)) where
       abbrev opening : Standing ManagerState
       opening = begun (opening_manager (shape_of h))
 
@@ -183,10 +183,10 @@ module _ (h : Header) (old : DurableParts ManagerState StopParts) (crash : Optio
       stands : again.stand ≡ (if keeps_input c then moved_by manager_machine old.stand a else old.stand)
       stands = opened.keeps.stand_is ∙ leads (keeps_input c)
 
-      short_again : (kept : Bool) (s : Standing ManagerState) (gate : ℕ) → s ≡ (if kept then moved_by manager_machine old.stand a else old.stand)
-          → gate ≡ (if kept then gate_behind old.gate takes else old.gate) → gate ≤ 36 + 128 * s.count
-      short_again true s gate is ends = omega (arith, managed.short, ends, grows is_accepted, ap (λ (t : Standing ManagerState). t.count) is)
-      short_again false s gate is ends = omega (arith, managed.short, ends, ap (λ (t : Standing ManagerState). t.count) is)
+      short_again : (kept : Bool) (s : Standing ManagerState) (commit : ℕ) → s ≡ (if kept then moved_by manager_machine old.stand a else old.stand)
+          → commit ≡ (if kept then commit_behind old.commit takes else old.commit) → commit ≤ 36 + 128 * s.count
+      short_again true s commit is ends = omega (arith, managed.short, ends, grows is_accepted, ap (λ (t : Standing ManagerState). t.count) is)
+      short_again false s commit is ends = omega (arith, managed.short, ends, ap (λ (t : Standing ManagerState). t.count) is)
 
       stamps_again : (kept : Bool) (s : Standing ManagerState) → s ≡ (if kept then moved_by manager_machine old.stand a else old.stand) → s.last ≡ s.count
       stamps_again true s is = omega (arith, managed.stamps, small.unstamped, ap (λ (t : Standing ManagerState). t.count) is, ap (λ (t : Standing ManagerState). t.last) is)
@@ -199,7 +199,7 @@ module _ (h : Header) (old : DurableParts ManagerState StopParts) (crash : Optio
         fresh = opened.fresh;
         limit = opened.limit;
         keeps = opened.keeps;
-        short = short_again (keeps_input c) again.stand again.gate stands opened.gate_is;
+        short = short_again (keeps_input c) again.stand again.commit stands opened.commit_is;
         stamps = stamps_again (keeps_input c) again.stand stands;
         armed = opened.disarmed;
         at_call = tt;

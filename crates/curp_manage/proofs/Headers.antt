@@ -51,7 +51,7 @@ module _ (h : Header) (d : DurableParts ManagerState StopParts) (opened : IsOpen
     fresh = opened.fresh;
     limit = opened.limit;
     keeps = opened.keeps;
-    short = omega (arith, opened.gate_is);
+    short = omega (arith, opened.commit_is);
     stamps = omega (arith, ap (λ (s : Standing ManagerState). s.last) stands, ap (λ (s : Standing ManagerState). s.count) stands);
     armed = opened.disarmed;
     at_call = tt;

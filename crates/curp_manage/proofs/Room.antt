@@ -17,5 +17,5 @@ encoded a small (inr long) = omega (arith, long, small.short, record-length (a �
 
 -- the record of a further input ends within the limit
 pub has_room : (h : Header) (d : DurableParts ManagerState StopParts) (crash : Option Crash) (a : Arrived) → IsManaged h d crash → IsSmallInput a → d.stand.count < step_limit
-    → d.size_limit < end_of d.gate (a ∷ []) → ⊥
+    → d.size_limit < end_of d.commit (a ∷ []) → ⊥
 has_room h d crash a managed small few full = omega (arith, managed.short, managed.limit, small.short, few, full)

@@ -30,25 +30,25 @@ title_for h = title_bytes (record { node = manager_node; header = h })
 
 -- the journal on its disk has these inputs, and they led the manager of the header to where it stands
 abbrev pub Keeps : Header → DurableParts ManagerState StopParts → List Arrived → Type 0
-Keeps h d inputs = IsSettled manager_machine stop_seen StopLeaves d.disk d.stand d.gate (title_for h) (opening_manager (shape_of h)) inputs
+Keeps h d inputs = IsSettled manager_machine stop_seen StopLeaves d.disk d.stand d.commit (title_for h) (opening_manager (shape_of h)) inputs
 
--- what a disk reads as is a journal of these inputs, whose last gate stands here
+-- what a disk reads as is a journal of these inputs, whose last commit stands here
 abbrev pub IsJournalOn : Header → StopParts → List Arrived → ℕ → Type 0
-IsJournalOn h disk inputs gate = HoldsUpTo (seen_of disk.played) (title_for h) inputs gate
+IsJournalOn h disk inputs commit = HoldsUpTo (seen_of disk.played) (title_for h) inputs commit
 
 abbrev pub HasJournal : Header → StopParts → Type 0
-HasJournal h disk = (inputs : List Arrived) × (gate : ℕ) × IsJournalOn h disk inputs gate
+HasJournal h disk = (inputs : List Arrived) × (commit : ℕ) × IsJournalOn h disk inputs commit
 
 -- how many bytes a journal may have
 abbrev pub size_limit : ℕ
 size_limit = 2 ^ 30
 
 -- such a journal was opened, on a disk that isn't armed
-pub record IsOpenedAgain (h : Header) (d : DurableParts ManagerState StopParts) (inputs : List Arrived) (gate : ℕ) : Type 0 where
+pub record IsOpenedAgain (h : Header) (d : DurableParts ManagerState StopParts) (inputs : List Arrived) (commit : ℕ) : Type 0 where
   pub fresh : d.spent ≡ false
   pub limit : d.size_limit ≡ size_limit
   pub keeps : Keeps h d inputs
-  pub gate_is : d.gate ≡ gate
+  pub commit_is : d.commit ≡ commit
   pub disarmed : d.disk.armed ≡ None
 
 -- it has an encoding, its record has at most 128 bytes, and it came with no stamp
@@ -86,7 +86,7 @@ pub record IsManaged (h : Header) (d : DurableParts ManagerState StopParts) (cra
   pub fresh : d.spent ≡ false
   pub limit : d.size_limit ≡ size_limit
   pub keeps : Keeps h d inputs
-  pub short : d.gate ≤ 36 + 128 * d.stand.count
+  pub short : d.commit ≤ 36 + 128 * d.stand.count
   pub stamps : d.stand.last ≡ d.stand.count
   pub armed : d.disk.armed ≡ stop_call crash
   pub at_call : IsAtCall crash

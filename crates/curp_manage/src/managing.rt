@@ -342,9 +342,9 @@ fn open_crashed(
 ) -> Result<Durable<ManagerNode, StopDisk>, NoMemory>
     requires few { HasFewNodes header.now }
     requires journal { HasJournal header.now (record manager.disk { played = crashed kept manager.disk.played }) }
-    ensures { (inputs : List Arrived) (gate : ℕ)
-        → IsJournalOn header.now (record manager.disk { played = crashed kept manager.disk.played }) inputs gate
-        → IfOk result (λ d. IsOpenedAgain header.now d inputs gate) }
+    ensures { (inputs : List Arrived) (commit : ℕ)
+        → IsJournalOn header.now (record manager.disk { played = crashed kept manager.disk.played }) inputs commit
+        → IfOk result (λ d. IsOpenedAgain header.now d inputs commit) }
 {
     let mut disk = manager.into_disk();
     disk.crash(kept);
@@ -360,8 +360,8 @@ fn open_again(
     requires few { HasFewNodes header.now }
     requires journal { HasJournal header.now disk }
     requires disarmed { disk.armed ≡ None }
-    ensures { (inputs : List Arrived) (gate : ℕ) → IsJournalOn header.now disk inputs gate
-        → IfOk result (λ d. IsOpenedAgain header.now d inputs gate) }
+    ensures { (inputs : List Arrived) (commit : ℕ) → IsJournalOn header.now disk inputs commit
+        → IfOk result (λ d. IsOpenedAgain header.now d inputs commit) }
 {
     let title = title_of(NodeId::manager(), header);
     let node = opening_node(alloc, header)?;

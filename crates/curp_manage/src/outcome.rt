@@ -18,7 +18,7 @@ pub(crate) enum LineOutcome {
     Stopped { kept: bool },
 }
 
-/// Adds the text of a step. After want of memory a part of it may stand there.
+/// Adds the text of a step. After running out of memory a part of it may stand there.
 pub(crate) fn push_outcome(
     text: &mut String,
     number: u64,

@@ -2,7 +2,7 @@
 //! keys, and everything else once all backups have it.
 //!
 //! `Master::on_message` and `Master::on_order`, clause `moves`: each call makes the move of a serving master's
-//! definition, and hands out all that it sends. For want of memory nothing has changed. `shell` takes the memory of a
+//! definition, and hands out all that it sends. Out of memory, nothing has changed. `shell` takes the memory of a
 //! master with its lists, and `begin` takes none, so a recovery ends only where its master's memory is there. `begin`,
 //! `log`, `synced`, `captured`, `last_capture`: exact.
 //!

@@ -8,7 +8,7 @@ ghost use Rattle.curp_master.specs.Switching.{IsSettledNext, next_lists, rounds_
 
 use crate::Master;
 use curp_base::NoMemory;
-use curp_master_log::in_front;
+use curp_master_log::in_prefix;
 use curp_msg::{Done, Message, Prepare};
 use curp_rounds::acknowledged::least_length;
 use curp_rounds::{Phase, Switch, messages};
@@ -34,7 +34,7 @@ impl Master {
             return Ok(Done::quiet(self.alloc));
         };
         let told = messages::prepared(self.number, version);
-        let sent = in_front(self.alloc, told, round.appends)?;
+        let sent = in_prefix(self.alloc, told, round.appends)?;
         self.round = round.number;
         Ok(Done::sends(sent))
     }

@@ -25,10 +25,10 @@ answer_of_last lo hi entries r acknowledged =
     at_push entries (Op r acknowledged) (length entries) refl
     in
     let within : length entries ≤ length entries = omega arith in
-    let front : take (length entries) (entries ++ Op r acknowledged ∷ []) ≡ entries =
+    let prefix : take (length entries) (entries ++ Op r acknowledged ∷ []) ≡ entries =
     take-append-le (length entries) entries (Op r acknowledged ∷ []) within ∙ take-length entries
     in
-    rw (last, front) refl
+    rw (last, prefix) refl
 
 pub answered : (j pushed : KeptLog) (is_free : Bool) (index : ℕ) (r : Request) (answer : Option Answer)
     → pushed ≡ with_entry j (Op r r.first) is_free → index ≡ length j.entries → answer ≡ answer_at pushed.lo pushed.hi pushed.entries index
@@ -82,5 +82,5 @@ between_split entries start end before =
 
 pub split_if_read : (r : Result (Vec Entry) AllocError) (entries : List Entry) (start end : ℕ) → start ≤ end
     → IfOk r (λ read. read.items ≡ take (end - start) (drop start entries)) → IfOk r (λ read. drop start entries ≡ read.items ++ drop end entries)
-split_if_read (Ok read) entries start end before is = between_split entries start end before ∙ ap (λ front. front ++ drop end entries) (sym is)
+split_if_read (Ok read) entries start end before is = between_split entries start end before ∙ ap (λ prefix. prefix ++ drop end entries) (sym is)
 split_if_read (Err why) entries start end before is = tt

@@ -7,7 +7,7 @@
 //! - `suspects`: what suspects of a witness bring into the log (`news`), and each of them in turn at the log and at the
 //!   queue of what waits for collection (`treat_each`), which takes no memory. Exact.
 //! - `suffix_with`: what stands in the log from a place on, with more entries behind it. Exact.
-//! - `only`, `in_front`, `reply_room`: lists of the messages that a master sends.
+//! - `only`, `in_prefix`, `reply_room`: lists of the messages that a master sends.
 #![tactic(auto)]
 
 mod master_log;
@@ -17,5 +17,5 @@ pub mod suspects;
 mod untold;
 
 pub use master_log::{MasterLog, op_of, op_room};
-pub use sending::{in_front, only, reply_room};
+pub use sending::{in_prefix, only, reply_room};
 pub use suffix::suffix_with;

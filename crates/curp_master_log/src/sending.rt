@@ -14,7 +14,7 @@ pub fn only(alloc: Global, message: Message) -> Result<Vec<Message>, NoMemory>
 }
 
 /// A message before others.
-pub fn in_front(
+pub fn in_prefix(
     alloc: Global,
     message: Message,
     others: Vec<Message>,

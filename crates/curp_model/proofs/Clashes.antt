@@ -81,10 +81,10 @@ unfolding IsDistinct
 without_second r s rs d = (d.0.1, d.1.1)
 
 -- what stands before a request doesn't conflict with it
-pub front_apart : (rs : List Request) (j : ℕ) (q : Request) → IsDistinct clash rs → At rs j q → AllByRecursion (λ r. conflicts r.command q.command ≡ false) (take j rs)
-front_apart [] j q d h = absurd cc
-front_apart (r ∷ rs) zero q d h = tt
-front_apart (r ∷ rs) (suc j) q d h = (no_conflict r q (all_at (λ s. clash r s ≡ false) rs (first_apart r rs d) j q h), front_apart rs j q (rest_apart r rs d) h)
+pub prefix_apart : (rs : List Request) (j : ℕ) (q : Request) → IsDistinct clash rs → At rs j q → AllByRecursion (λ r. conflicts r.command q.command ≡ false) (take j rs)
+prefix_apart [] j q d h = absurd cc
+prefix_apart (r ∷ rs) zero q d h = tt
+prefix_apart (r ∷ rs) (suc j) q d h = (no_conflict r q (all_at (λ s. clash r s ≡ false) rs (first_apart r rs d) j q h), prefix_apart rs j q (rest_apart r rs d) h)
 
 -- and one id is of one request
 pub one_of_id : (rs : List Request) → IsDistinct clash rs → (j k : ℕ) (q r : Request) → At rs j q → At rs k r → q.id ≡ r.id → q ≡ r

@@ -28,7 +28,7 @@ use Rattle.curp_model.specs.Table.{check}
 use Rattle.curp_model.proofs.Tables.{check_other}
 use Rattle.curp_model.proofs.Logs.{meaning_append, op_not_new}
 use Rattle.curp_model.proofs.Filters.{exchanged, filter_at, filter_apart, filter_permutation}
-use Rattle.curp_model.proofs.Clashes.{clash_flips, no_conflict, other_id, all_at, first_apart, rest_apart, without_second, front_apart, one_of_id}
+use Rattle.curp_model.proofs.Clashes.{clash_flips, no_conflict, other_id, all_at, first_apart, rest_apart, without_second, prefix_apart, one_of_id}
 
 -- ---- a replay adds each request
 
@@ -133,13 +133,13 @@ module _ (commute : (s : Contents) (a b : Command) → conflicts a b ≡ false �
     (second : (s : Contents) (a b : Command) → conflicts a b ≡ false → (applied (applied s a).after b).answer ≡ (applied s b).answer) where
   -- ---- answers
 
-  answers_alone : (front : List Request) (c : Contents) (q : Request) → AllByRecursion (λ r. conflicts r.command q.command ≡ false) front → (applied (stored c front) q.command).answer ≡ (applied c q.command).answer
+  answers_alone : (prefix : List Request) (c : Contents) (q : Request) → AllByRecursion (λ r. conflicts r.command q.command ≡ false) prefix → (applied (stored c prefix) q.command).answer ≡ (applied c q.command).answer
   answers_alone [] c q apart = refl
-  answers_alone (r ∷ front) c q apart = answers_alone front (applied c r.command).after q apart.1 ∙ second c r.command q.command apart.0
+  answers_alone (r ∷ prefix) c q apart = answers_alone prefix (applied c r.command).after q apart.1 ∙ second c r.command q.command apart.0
 
   replayed_answer : (lo hi : ℕ) (log : List Entry) (rs : List Request) (j : ℕ) (q : Request) → IsDistinct clash rs → At rs j q → answer_after lo hi (log ++ ops (take j rs)) q.command ≡ answer_after lo hi log q.command
   replayed_answer lo hi log rs j q d h =
-      ap (λ (c : Contents). (applied c q.command).answer) (log_stored lo hi log (take j rs)) ∙ answers_alone (take j rs) (meaning lo hi log).store q (front_apart rs j q d h)
+      ap (λ (c : Contents). (applied c q.command).answer) (log_stored lo hi log (take j rs)) ∙ answers_alone (take j rs) (meaning lo hi log).store q (prefix_apart rs j q d h)
 
   pub done_replayed : (lo hi : ℕ) (log : List Entry) (rs : List Request) (j : ℕ) (q : Request) → IsDistinct clash rs → At rs j q → IsDone lo hi (log ++ ops rs) q.id (answer_after lo hi log q.command)
   done_replayed lo hi log rs j q d h = record {

@@ -67,7 +67,7 @@ done_of m = record { refused = m.refused; sent = m.messages; completed = m.compl
 abbrev pub Makes : {S : Type 0} → (new : S) → Done → Moved S → Type 0
 Makes new done m = (new ≡ m.state) × (done ≡ done_of m)
 
--- the call made the move; by an error, as by want of memory, nothing has changed
+-- the call made the move; by an error, as by running out of memory, nothing has changed
 abbrev pub Moves : {S E : Type 0} → (old new : S) → Result Done E → Moved S → Type 0
 Moves old new (Ok done) m = Makes new done m
 Moves old new (Err why) m = new ≡ old

@@ -212,7 +212,7 @@ pub trait Core {
     fn on_message(&mut self, message: &Message) -> Result<Done, NoMemory>
         ensures moves { Moves self.old self.new result (machine self.old (input.Message message.now)) };
 
-    /// The node gets an order. One that it refuses never fails for want of memory.
+    /// The node gets an order. One that it refuses never fails out of memory.
     fn on_order(&mut self, order: &Local) -> Result<Done, NoMemory>
         ensures moves { Moves self.old self.new result (machine self.old (input.Local order.now)) }
         ensures refused { (machine self.old (input.Local order.now)).refused ≢ 0 → IsOk result };

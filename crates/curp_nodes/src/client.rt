@@ -144,7 +144,7 @@ impl ClientNode {
     }
 }
 
-// What a node tells of an order that wasn't made: the number of its refusal, else want of memory.
+// What a node tells of an order that wasn't made: the number of its refusal, else out of memory.
 fn told(alloc: Global, refusal: u8) -> Result<Done, NoMemory>
     ensures { TellsRefusal refusal result }
 {

@@ -8,10 +8,10 @@ use Rattle.curp_parcels.specs.declared.buffer.Filled.{Filled}
 use Rattle.curp_parcels.specs.declared.buffer.Filled.TheVariants as filled
 
 -- the bytes from before stand where room was made, if it was
-pub kept_front : (b : Bool) (old zeros resized : List ℕ) (n : ℕ) → length old ≤ n → resized ≡ cond b (take n old ++ zeros) old → take (length old) resized ≡ old
-kept_front true old zeros resized n long is =
+pub kept_prefix : (b : Bool) (old zeros resized : List ℕ) (n : ℕ) → length old ≤ n → resized ≡ cond b (take n old ++ zeros) old → take (length old) resized ≡ old
+kept_prefix true old zeros resized n long is =
     ap (take (length old)) (is ∙ ap (λ (l : List ℕ). l ++ zeros) (take_all n old long)) ∙ take-append-le (length old) old zeros (omega arith) ∙ take_all (length old) old (omega arith)
-kept_front false old zeros resized n long is = ap (take (length old)) is ∙ take_all (length old) old (omega arith)
+kept_prefix false old zeros resized n long is = ap (take (length old)) is ∙ take_all (length old) old (omega arith)
 
 pub added : (old resized read new : List ℕ) (len count : ℕ) → len ≡ length old → take (length old) resized ≡ old → take len read ≡ take len resized → count ≤ length (drop len read) → new ≡ take (len + count) read → AddsBytes old new count
 added old resized read new len count long kept same fits is = record {

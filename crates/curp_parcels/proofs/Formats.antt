@@ -22,7 +22,7 @@ use Rattle.curp_wire.specs.Frame.{content, has_frame}
 use Rattle.curp_batches.proofs.Encodings.{arrival_is, frame_is, one_prefix, prefix_within}
 use Rattle.curp_batches.specs.Arrivals.{arrival, frame, frame_of}
 use Rattle.curp_batches.specs.Prefixes.{Begins, BeginsNot}
-use Rattle.curp_parcels.specs.Outgoing.{Completion, Name, capture_made, capture_parts, completion, completion_made, completion_parts, has_encoding, has_room, is_capture, name, outgoing, outgoing_parts, plain, plain_read, plain_variants, sent, sent_front, sent_made, whole}
+use Rattle.curp_parcels.specs.Outgoing.{Completion, Name, capture_made, capture_parts, completion, completion_made, completion_parts, has_encoding, has_room, is_capture, name, outgoing, outgoing_parts, plain, plain_read, plain_variants, sent, sent_prefix, sent_made, whole}
 use Rattle.curp_parcels.specs.Parcels.{IsEncoding, IsIn, IsParcel, incoming, parcel_limit}
 use Rattle.curp_parcels.specs.declared.outgoing.Outgoing.{Outgoing}
 use Rattle.curp_parcels.specs.declared.outgoing.Outgoing.TheVariants as out
@@ -215,8 +215,8 @@ and_false : (b : Bool) → (b && false) ≡ false
 and_false true = refl
 and_false false = refl
 
-no_room : (m : Message) → parcel_limit < sent_front + length (content m) → (has_frame m && has_room m) ≡ false
-no_room m long = ap (λ (b : Bool). has_frame m && b) (lt-leb (sent_front + length (content m)) parcel_limit long) ∙ and_false (has_frame m)
+no_room : (m : Message) → parcel_limit < sent_prefix + length (content m) → (has_frame m && has_room m) ≡ false
+no_room m long = ap (λ (b : Bool). has_frame m && b) (lt-leb (sent_prefix + length (content m)) parcel_limit long) ∙ and_false (has_frame m)
 
 pub too_long_said : (said : Outgoing) → outgoing.Fits said → parcel_limit < length (outgoing.of said) → has_encoding said ≡ false
 unfolding outgoing
@@ -246,7 +246,7 @@ pub parcel_had : (said : Outgoing) (bytes : List ℕ) → IsParcel outgoing said
 unfolding outgoing
 parcel_had (out.Stands items last) bytes p = refl
 parcel_had (out.Sent step at stamp m) bytes p =
-    and_from (has_frame m) (has_room m) (sent_had (step, (at, stamp)) m p.fits) (le-leb (sent_front + length (content m)) parcel_limit (omega (arith, p.short, sent_size (step, (at, stamp)) m)))
+    and_from (has_frame m) (has_room m) (sent_had (step, (at, stamp)) m p.fits) (le-leb (sent_prefix + length (content m)) parcel_limit (omega (arith, p.short, sent_size (step, (at, stamp)) m)))
 parcel_had (out.Completed stamp c) bytes p = capture_passes (stamp, c) p.fits
 parcel_had (out.Refused number by) bytes p = refl
 parcel_had (out.NoParcel number at) bytes p = refl

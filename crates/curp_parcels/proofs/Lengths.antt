@@ -81,9 +81,9 @@ same_first bytes one other rest rest_other s t =
       sym (drop_at one rest (length one) refl) ∙ ap (λ (l : List ℕ). drop (length one) l) same.1 ∙ drop_at other rest_other (length one) (sym same.0),
     )
 
-pub no_parcel_begins : {A : Type 0} (f : Format A) → IsFormat f → (one other : A) (front front_other rest rest_other : List ℕ) → IsParcel f one front → IsParcel f other front_other
-    → front ++ rest ≡ front_other ++ rest_other → (one ≡ other) × (rest ≡ rest_other)
-no_parcel_begins {A} f is one other front front_other rest rest_other p q e =
+pub no_parcel_begins : {A : Type 0} (f : Format A) → IsFormat f → (one other : A) (prefix prefix_other rest rest_other : List ℕ) → IsParcel f one prefix → IsParcel f other prefix_other
+    → prefix ++ rest ≡ prefix_other ++ rest_other → (one ≡ other) × (rest ≡ rest_other)
+no_parcel_begins {A} f is one other prefix prefix_other rest rest_other p q e =
     let whole : (to_be_bytes w32 (length (f.of one)) ++ f.of one) ++ rest ≡ (to_be_bytes w32 (length (f.of other)) ++ f.of other) ++ rest_other =
     ap (λ (l : List ℕ). l ++ rest) (sym p.is) ∙ e ∙ ap (λ (l : List ℕ). l ++ rest_other) q.is in
     let same = same_count (length (f.of one)) (length (f.of other)) (f.of one ++ rest) (f.of other ++ rest_other) (omega (arith, p.short)) (omega (arith, q.short))

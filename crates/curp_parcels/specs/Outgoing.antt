@@ -99,12 +99,12 @@ is_capture None = true
 is_capture (Some c) = is_node c.master
 
 -- how many bytes stand before the content of a message in its parcel: a tag, its name, and the length of its frame
-abbrev pub sent_front : ℕ
-sent_front = 29
+abbrev pub sent_prefix : ℕ
+sent_prefix = 29
 
 -- a parcel has room for the message
 abbrev pub has_room : Message → Bool
-has_room m = nat_le (sent_front + length (content m)) parcel_limit
+has_room m = nat_le (sent_prefix + length (content m)) parcel_limit
 
 -- a message whose frame a parcel has room for, a completion by a node that there may be, and all else
 abbrev pub has_encoding : Outgoing → Bool

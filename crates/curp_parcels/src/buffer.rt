@@ -17,7 +17,7 @@ pub(crate) enum Filled {
     NoMemory,
 }
 
-/// Drops so many bytes at the front.
+/// Drops so many bytes at the prefix.
 pub(crate) fn drop_first(buffer: &mut Vec<u8>, count: usize)
     requires { count ≤ length buffer.old.items }
     ensures { buffer.new.items ≡ drop count buffer.old.items }
@@ -60,7 +60,7 @@ pub(crate) fn read_behind<S: Source>(buffer: &mut Vec<u8>, source: &mut S) -> Fi
 /// Takes bytes of the source into the buffer from a place on.
 fn take_behind<S: Source>(source: &mut S, buffer: &mut Vec<u8>, from: usize) -> Taken
     requires { from ≤ vec_len buffer.old }
-    ensures front { take from buffer.new.items ≡ take from buffer.old.items }
+    ensures prefix { take from buffer.new.items ≡ take from buffer.old.items }
     ensures len { vec_len buffer.new ≡ vec_len buffer.old }
     ensures fits { FitsBuffer result (drop from buffer.new.items) }
     ensures bytes { S.tells source.old ≡ true

@@ -8,15 +8,15 @@ ghost use Rattle.curp_parcels.specs.declared.outgoing.Outgoing.{Outgoing};
 
 /// No parcel begins another, and a parcel has one arrival.
 pub fn no_arrival_begins_another()
-    ensures { (one other : Arrived) (front front_other rest rest_other : List ℕ) → IsParcel incoming one front
-        → IsParcel incoming other front_other → front ++ rest ≡ front_other ++ rest_other
+    ensures { (one other : Arrived) (prefix prefix_other rest rest_other : List ℕ) → IsParcel incoming one prefix
+        → IsParcel incoming other prefix_other → prefix ++ rest ≡ prefix_other ++ rest_other
         → (one ≡ other) × (rest ≡ rest_other) }
 {}
 
 /// The same of what goes out.
 pub fn no_saying_begins_another()
-    ensures { (one other : Outgoing) (front front_other rest rest_other : List ℕ) → IsParcel outgoing one front
-        → IsParcel outgoing other front_other → front ++ rest ≡ front_other ++ rest_other
+    ensures { (one other : Outgoing) (prefix prefix_other rest rest_other : List ℕ) → IsParcel outgoing one prefix
+        → IsParcel outgoing other prefix_other → prefix ++ rest ≡ prefix_other ++ rest_other
         → (one ≡ other) × (rest ≡ rest_other) }
 {}
 

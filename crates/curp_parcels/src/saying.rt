@@ -36,7 +36,7 @@ pub fn encode_outgoing(alloc: Global, said: &Outgoing) -> Result<Vec<u8>, WriteE
 
 #[tactic(auto, unfolding(crate::specs::Outgoing::outgoing, crate::specs::Outgoing::name))]
 fn write(alloc: Global, said: &Outgoing, out: &mut Writer) -> Result<(), WriteError>
-    ensures writes { OnOk result (out.new ≡ record { front = out.old.front; text = out.old.text ++ outgoing.of said.now }) }
+    ensures writes { OnOk result (out.new ≡ record { prefix = out.old.prefix; text = out.old.text ++ outgoing.of said.now }) }
     ensures fits { OnOk result (outgoing.Fits said.now) }
     ensures none { result ≡ Err WriteError.NoEncoding → has_encoding said.now ≡ false }
 {
@@ -86,7 +86,7 @@ fn write_sent(
     message: &Message,
     out: &mut Writer,
 ) -> Result<(), WriteError>
-    ensures writes { OnOk result (out.new ≡ record { front = out.old.front; text = out.old.text ++ sent.of (name, message.now) }) }
+    ensures writes { OnOk result (out.new ≡ record { prefix = out.old.prefix; text = out.old.text ++ sent.of (name, message.now) }) }
     ensures fits { OnOk result (sent.Fits (name, message.now)) }
     ensures none { result ≡ Err WriteError.NoEncoding → has_frame message.now ≡ false }
 {
@@ -98,7 +98,7 @@ fn write_sent(
 
 #[tactic(auto, unfolding(crate::specs::Outgoing::completion))]
 fn write_completion(stamp: u64, completed: &Completed, out: &mut Writer) -> Result<(), WriteError>
-    ensures writes { OnOk result (out.new ≡ record { front = out.old.front; text = out.old.text ++ completion.of (stamp, completed.now) }) }
+    ensures writes { OnOk result (out.new ≡ record { prefix = out.old.prefix; text = out.old.text ++ completion.of (stamp, completed.now) }) }
     ensures fits { OnOk result (completion.Fits (stamp, completed.now)) }
     ensures none { result ≡ Err WriteError.NoEncoding → is_capture completed.now.by ≡ false }
 {

@@ -39,11 +39,11 @@ pub fn play_history<S: Source, K: Sink>(alloc: Global, source: &mut S, sink: &mu
     ensures complete { S.tells source.old ≡ true → (script_in (S.left source.old)).body.ending ≡ Whole
         → EndsWhole result (S.faults source.old) (S.faults source.new) (K.faults sink.old) (K.faults sink.new) }
 
-    // It writes the lines of the history and of the order, and passes them on; where it is cut short, it writes a front
+    // It writes the lines of the history and of the order, and passes them on; where it is cut short, it writes a prefix
     // of them.
     ensures wrote { S.tells source.old ≡ true → K.tells sink.old ≡ true → is_cut_short result ≡ false
         → K.held sink.new ≡ K.held sink.old ++ claim_of (script_in (S.left source.old)) }
-    ensures front { S.tells source.old ≡ true → K.tells sink.old ≡ true
+    ensures prefix { S.tells source.old ≡ true → K.tells sink.old ≡ true
         → HoldsPart (K.held sink.old) (K.held sink.new) (claim_of (script_in (S.left source.old))) }
     ensures flushed { is_cut_short result ≡ false → K.flushed sink.new ≡ true }
     ensures out_of_memory { result ≡ Status.NoMemory → K.flushed sink.new ≡ true }
@@ -136,7 +136,7 @@ fn write_claim<K: Sink>(alloc: Global, world: &World, sink: &mut K) -> Result<()
     requires { length world.now.history ≤ step_limit }
     ensures wrote { K.tells sink.old ≡ true → OnOk result
         (K.held sink.new ≡ K.held sink.old ++ claim_lines world.now.history (model.order world.now)) }
-    ensures front { K.tells sink.old ≡ true → HoldsPart (K.held sink.old) (K.held sink.new)
+    ensures prefix { K.tells sink.old ≡ true → HoldsPart (K.held sink.old) (K.held sink.new)
         (claim_lines world.now.history (model.order world.now)) }
     ensures claim { OnOk result (IsClaimOfOrder (claim_lines world.now.history (model.order world.now))) }
     ensures writing { IfErr result IsOfWriting }
@@ -155,7 +155,7 @@ fn write_claim<K: Sink>(alloc: Global, world: &World, sink: &mut K) -> Result<()
 fn write_events<K: Sink>(alloc: Global, events: &[KeptEvent], sink: &mut K) -> Result<(), Status>
     ensures wrote { K.tells sink.old ≡ true
         → OnOk result (K.held sink.new ≡ K.held sink.old ++ history_lines events.now) }
-    ensures front { K.tells sink.old ≡ true
+    ensures prefix { K.tells sink.old ≡ true
         → HoldsPart (K.held sink.old) (K.held sink.new) (history_lines events.now) }
     ensures in_range { OnOk result (Each EventInRange events.now) }
     ensures writing { IfErr result IsOfWriting }
@@ -179,7 +179,7 @@ fn write_order<K: Sink>(
 ) -> Result<(), Status>
     ensures wrote { K.tells sink.old ≡ true
         → OnOk result (K.held sink.new ≡ K.held sink.old ++ order_lines (asked_of order.now)) }
-    ensures front { K.tells sink.old ≡ true
+    ensures prefix { K.tells sink.old ≡ true
         → HoldsPart (K.held sink.old) (K.held sink.new) (order_lines (asked_of order.now)) }
     ensures in_range { OnOk result (Each AskedInRange (asked_of order.now)) }
     ensures writing { IfErr result IsOfWriting }
@@ -201,7 +201,7 @@ fn write_order<K: Sink>(
 /// Writes a line, with a line feed.
 fn write_line<K: Sink>(alloc: Global, line: &EventLine, sink: &mut K) -> Result<(), Status>
     ensures wrote { K.tells sink.old ≡ true → OnOk result (K.held sink.new ≡ K.held sink.old ++ event_line line.now) }
-    ensures front { K.tells sink.old ≡ true → HoldsPart (K.held sink.old) (K.held sink.new) (event_line line.now) }
+    ensures prefix { K.tells sink.old ≡ true → HoldsPart (K.held sink.old) (K.held sink.new) (event_line line.now) }
     ensures writing { IfErr result IsOfWriting }
     ensures tells { K.tells sink.old ≡ true → K.tells sink.new ≡ true }
     ensures fault { result ≡ Err Status.WriteFault → Rose (K.faults sink.old) (K.faults sink.new) }

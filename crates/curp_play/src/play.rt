@@ -36,10 +36,10 @@ pub fn play_script<S: Source, K: Sink>(alloc: Global, source: &mut S, sink: &mut
     ensures complete { S.tells source.old ≡ true → (script_in (S.left source.old)).body.ending ≡ Whole
         → EndsWhole result (S.faults source.old) (S.faults source.new) (K.faults sink.old) (K.faults sink.new) }
 
-    // It writes the text of the script and passes it on; where it is cut short, it writes a front of the text.
+    // It writes the text of the script and passes it on; where it is cut short, it writes a prefix of the text.
     ensures wrote { S.tells source.old ≡ true → K.tells sink.old ≡ true → is_cut_short result ≡ false
         → K.held sink.new ≡ K.held sink.old ++ text_of (script_in (S.left source.old)) }
-    ensures front { S.tells source.old ≡ true → K.tells sink.old ≡ true
+    ensures prefix { S.tells source.old ≡ true → K.tells sink.old ≡ true
         → HoldsPart (K.held sink.old) (K.held sink.new) (text_of (script_in (S.left source.old))) }
     ensures flushed { is_cut_short result ≡ false → K.flushed sink.new ≡ true }
     // Where reading fails, it has written what the whole lines say that it was given.

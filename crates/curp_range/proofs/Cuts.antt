@@ -9,14 +9,14 @@ use Rattle.curp_range.proofs.Ascending.{above_range, range_bounds, from_lower, s
 abbrev pub replaced : List Span → ℕ → List Span → List Span
 replaced xs at ys = take at xs ++ (ys ++ drop (suc at) xs)
 
-pub ascend-front : (f t c b : ℕ) (ys xs : List Span) → AscendWithin c (b + 1) ys → AscendWithin (b + 2) t xs → f ≤ c → c ≤ b → b < t → AscendWithin f t (ys ++ xs)
-ascend-front f t c b [] xs a r l m u = from_lower (b + 2) f t xs (omega arith) r
-ascend-front f t c b (y ∷ []) xs a r l m u = (omega (arith, a.0), a.1, omega (arith, a.2), from_lower (b + 2) (y.1 + 2) t xs (omega (arith, a.2)) r)
-ascend-front f t c b (y ∷ z ∷ ys) xs a r l m u = (omega (arith, a.0), a.1, omega (arith, a.2), ascend-front (y.1 + 2) t (y.1 + 2) b (z ∷ ys) xs a.3 r (omega arith) (omega (arith, a.3.0, a.3.1, a.3.2)) u)
+pub ascend-prefix : (f t c b : ℕ) (ys xs : List Span) → AscendWithin c (b + 1) ys → AscendWithin (b + 2) t xs → f ≤ c → c ≤ b → b < t → AscendWithin f t (ys ++ xs)
+ascend-prefix f t c b [] xs a r l m u = from_lower (b + 2) f t xs (omega arith) r
+ascend-prefix f t c b (y ∷ []) xs a r l m u = (omega (arith, a.0), a.1, omega (arith, a.2), from_lower (b + 2) (y.1 + 2) t xs (omega (arith, a.2)) r)
+ascend-prefix f t c b (y ∷ z ∷ ys) xs a r l m u = (omega (arith, a.0), a.1, omega (arith, a.2), ascend-prefix (y.1 + 2) t (y.1 + 2) b (z ∷ ys) xs a.3 r (omega arith) (omega (arith, a.3.0, a.3.1, a.3.2)) u)
 
 pub ascend-replaced : (f t : ℕ) (xs : List Span) (at : ℕ) (d : Span) (ys : List Span) → AscendWithin f t xs → at < length xs → AscendWithin (get_or xs at d).0 ((get_or xs at d).1 + 1) ys → AscendWithin f t (replaced xs at ys)
 ascend-replaced f t [] at d ys a l b = absurd (omega arith)
-ascend-replaced f t (s ∷ xs) zero d ys a l b = ascend-front f t s.0 s.1 ys xs b a.3 a.0 a.1 a.2
+ascend-replaced f t (s ∷ xs) zero d ys a l b = ascend-prefix f t s.0 s.1 ys xs b a.3 a.0 a.1 a.2
 ascend-replaced f t (s ∷ xs) (suc at) d ys a l b = (a.0, a.1, a.2, ascend-replaced (s.1 + 2) t xs at d ys a.3 (omega arith) b)
 
 and_or : (a b c : Bool) → (c ≡ true → a ≡ false) → (a || (b && not c)) ≡ ((a || b) && not c)
@@ -68,14 +68,14 @@ insert_parts (x ∷ xs) (suc at) y z l = ap (λ (zs : List Span). x ∷ zs) (ins
 
 -- the whole span
 pub cut_whole : (xs : List Span) (lo hi at : ℕ) (s : Span) → SpansAscend xs → lo ≤ hi → IsSpanOf xs lo hi at → s ≡ get_or xs at s → lo ≤ s.0 → s.1 ≤ hi → IsCut xs lo hi (remove xs at)
-cut_whole xs lo hi at s a o place is front back = cut_of xs lo hi at s [] a place is tt left
+cut_whole xs lo hi at s a o place is prefix back = cut_of xs lo hi at s [] a place is tt left
   where
     left : (h : ℕ) → false ≡ (is_in s.0 s.1 h && not (is_in lo hi h))
     left h = grind (arith, nat_tests)
 
 -- its end
 pub cut_back : (xs : List Span) (lo hi at : ℕ) (s : Span) → SpansAscend xs → lo ≤ hi → IsSpanOf xs lo hi at → s ≡ get_or xs at s → s.0 < lo → s.1 ≤ hi → IsCut xs lo hi (set xs at (s.0, lo - 1))
-cut_back xs lo hi at s a o place is front back =
+cut_back xs lo hi at s a o place is prefix back =
     rw (set_parts xs at (s.0, lo - 1) place.within) (cut_of xs lo hi at s ((s.0, lo - 1) ∷ []) a place is (omega arith, omega arith, last, tt) left)
   where
     last : lo - 1 < s.1 + 1
@@ -84,9 +84,9 @@ cut_back xs lo hi at s a o place is front back =
     left : (h : ℕ) → (is_in s.0 (lo - 1) h || false) ≡ (is_in s.0 s.1 h && not (is_in lo hi h))
     left h = let within = last in grind (arith, nat_tests)
 
--- its front
-pub cut_front : (xs : List Span) (lo hi at : ℕ) (s : Span) → SpansAscend xs → lo ≤ hi → IsSpanOf xs lo hi at → s ≡ get_or xs at s → lo ≤ s.0 → hi < s.1 → IsCut xs lo hi (set xs at (hi + 1, s.1))
-cut_front xs lo hi at s a o place is front back =
+-- its prefix
+pub cut_prefix : (xs : List Span) (lo hi at : ℕ) (s : Span) → SpansAscend xs → lo ≤ hi → IsSpanOf xs lo hi at → s ≡ get_or xs at s → lo ≤ s.0 → hi < s.1 → IsCut xs lo hi (set xs at (hi + 1, s.1))
+cut_prefix xs lo hi at s a o place is prefix back =
     rw (set_parts xs at (hi + 1, s.1) place.within) (cut_of xs lo hi at s ((hi + 1, s.1) ∷ []) a place is (first, omega arith, omega arith, tt) left)
   where
     first : s.0 ≤ hi + 1
@@ -97,7 +97,7 @@ cut_front xs lo hi at s a o place is front back =
 
 -- its middle
 pub cut_middle : (xs : List Span) (lo hi at : ℕ) (s : Span) → SpansAscend xs → lo ≤ hi → IsSpanOf xs lo hi at → s ≡ get_or xs at s → s.0 < lo → hi < s.1 → IsCut xs lo hi (insert (set xs at (s.0, lo - 1)) (at + 1) (hi + 1, s.1))
-cut_middle xs lo hi at s a o place is front back =
+cut_middle xs lo hi at s a o place is prefix back =
     rw (add-one at, insert_parts xs at (s.0, lo - 1) (hi + 1, s.1) place.within)
     (cut_of xs lo hi at s ((s.0, lo - 1) ∷ (hi + 1, s.1) ∷ []) a place is (omega arith, omega arith, omega arith, (omega arith, omega arith, omega arith, tt)) left)
   where

@@ -18,12 +18,12 @@ pub record IsJoining (old : List Span) (lo hi : ℕ) (spans : List Span) (at fir
 
 -- two ranges that meet or touch are one
 pub united : (a b first last h : ℕ) → a ≤ b → first ≤ last → a ≤ last + 1 → first ≤ b + 1 → is_in (min first a) (max last b) h ≡ (is_in a b h || is_in first last h)
-united a b first last h o q front back = grind (arith, nat_tests)
+united a b first last h o q prefix back = grind (arith, nat_tests)
 
 -- one more span is taken in
 pub joining_more : (old xs : List Span) (lo hi at first last : ℕ) (s : Span) → IsJoining old lo hi xs at first last → at < length xs → s ≡ get_or xs at s → s.0 ≤ last + 1
     → IsJoining old lo hi (remove xs at) at (min first s.0) (max last s.1)
-joining_more old xs lo hi at first last s j l is front = record {
+joining_more old xs lo hi at first last s j l is prefix = record {
   ascend = ascend-replaced 0 (2 ^ 64) xs at s [] j.ascend l tt;
   within = omega (arith, length-remove xs at l);
   ordered = omega (arith, j.ordered);
@@ -52,7 +52,7 @@ joining_more old xs lo hi at first last s j l is front = record {
     reach k d m n = rw (get_or-remove_above xs at d k m l) (omega (arith, j.reach (k + 1) d (omega arith) (omega (arith, length-remove xs at l))))
 
     owned : (h : ℕ) → (is_owned (remove xs at) h || is_in (min first s.0) (max last s.1) h) ≡ (is_owned old h || is_in lo hi h)
-    owned h = or_under (is_owned (remove xs at) h) _ (is_in s.0 s.1 h) (is_in first last h) (united s.0 s.1 first last h order.0 j.ordered front back)
+    owned h = or_under (is_owned (remove xs at) h) _ (is_in s.0 s.1 h) (is_in first last h) (united s.0 s.1 first last h order.0 j.ordered prefix back)
         ∙ ap (λ (b : Bool). b || is_in first last h) (sym (owned_read xs at s is h l)) ∙ j.owned h
 
 ascend-insert : (f t : ℕ) (xs : List Span) (at first last : ℕ) (d : Span) → AscendWithin f t xs → at ≤ length xs → f ≤ first → first ≤ last → last < t

@@ -4,7 +4,7 @@ use Rattle.std.proofs.Math.Bool.{or_comm}
 use Rattle.std.proofs.lemmas.Bool.Decides.{nat_tests}
 use Rattle.curp_range.specs.Spans.{Span, is_in, is_owned, AscendWithin, AreSpansOf, SpansAscend, part_below, part_above, without, with_range}
 use Rattle.curp_range.proofs.Ascending.{from_lower, owned-append, or_under}
-use Rattle.curp_range.proofs.Cuts.{ascend-front}
+use Rattle.curp_range.proofs.Cuts.{ascend-prefix}
 use Rattle.curp_range.proofs.Joins.{united}
 use Rattle.curp_range.proofs.Same.{same_within}
 
@@ -44,7 +44,7 @@ and_over false b c = refl
 without-ascend : (f t : ℕ) (xs : List Span) (lo hi : ℕ) → AscendWithin f t xs → lo ≤ hi → AscendWithin f t (without xs lo hi)
 without-ascend f t [] lo hi a o = tt
 without-ascend f t (s ∷ xs) lo hi a o =
-    ascend-front f t s.0 s.1 (parts s lo hi) (without xs lo hi) (parts-ascend s lo hi a.1 o) (without-ascend (s.1 + 2) t xs lo hi a.3 o) a.0 a.1 a.2
+    ascend-prefix f t s.0 s.1 (parts s lo hi) (without xs lo hi) (parts-ascend s lo hi a.1 o) (without-ascend (s.1 + 2) t xs lo hi a.3 o) a.0 a.1 a.2
 
 without-owned : (f t : ℕ) (xs : List Span) (lo hi h : ℕ) → AscendWithin f t xs → lo ≤ hi → is_owned (without xs lo hi) h ≡ (is_owned xs h && not (is_in lo hi h))
 without-owned f t [] lo hi h a o = refl
@@ -78,7 +78,7 @@ with_range-ascend f t (s ∷ xs) lo hi a l o u =
         → (p q : Bool) → nat_lt (s.1 + 1) lo ≡ p → nat_lt (hi + 1) s.0 ≡ q
         → AscendWithin f t (cond p (s ∷ with_range xs lo hi) (cond q ((lo, hi) ∷ s ∷ xs) (with_range xs (min s.0 lo) (max s.1 hi))))
     go rest grown true q e g = let behind : s.1 + 1 < lo = grind (arith, nat_tests) in (a.0, a.1, a.2, rest (omega arith))
-    go rest grown false true e g = let front : hi + 1 < s.0 = grind (arith, nat_tests) in (l, o, u, (omega arith, a.1, a.2, a.3))
+    go rest grown false true e g = let prefix : hi + 1 < s.0 = grind (arith, nat_tests) in (l, o, u, (omega arith, a.1, a.2, a.3))
     go rest grown false false e g = grown
 
 with_range-owned : (f t : ℕ) (xs : List Span) (lo hi h : ℕ) → AscendWithin f t xs → lo ≤ hi → is_owned (with_range xs lo hi) h ≡ (is_owned xs h || is_in lo hi h)

@@ -7,7 +7,7 @@
 //! `is_adopted_by` says whether a message is the adoption by which it begins to serve, and `finish` gives the log to
 //! serve with, without memory. The replayed requests stand behind the log as ops that acknowledge nothing, in the
 //! witness's order, each where it is new and owned. A log that is none counts as not delivered. A recovery costs two
-//! passes over the log, to test it and to replay behind it, and its messages. For want of memory nothing has changed.
+//! passes over the log, to test it and to replay behind it, and its messages. Out of memory, nothing has changed.
 #![tactic(auto)]
 
 mod error;

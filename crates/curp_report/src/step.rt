@@ -11,7 +11,7 @@ use curp_msg::{Completed, Message, Outcome, StepResult};
 use std::alloc::Global;
 
 /// Adds the lines of a step: how it went, each message that it sent, and the request that it completed. Steps are
-/// numbered from 1. After want of memory a part of the lines may stand there.
+/// numbered from 1. After running out of memory a part of the lines may stand there.
 #[tactic(auto, unfolding(crate::specs::Text::step_text))]
 pub fn push_step_text(
     text: &mut String,

@@ -5,7 +5,7 @@ use Rattle.curp_resp.specs.Meaning.{meaning}
 use Rattle.curp_resp.specs.Next.{BreaksOffAt, IsNextRequest}
 use Rattle.curp_resp.specs.declared.requests.NextRequest.{NextRequest}
 use Rattle.curp_resp.specs.declared.requests.NextRequest.TheVariants as next
-use Rattle.curp_resp.proofs.Fronts.{one_place, one_stands_first, some_ahead}
+use Rattle.curp_resp.proofs.Prefixes.{one_place, one_stands_first, some_ahead}
 
 pub asked_due : (bytes : List ℕ) (passed : ℕ) (answer : NextRequest) (rest : List ℕ) (passed_then : ℕ) → IsNextRequest bytes passed answer rest passed_then → answer ≢ next.ReadFault
     → (arguments : List (List ℕ)) (left : List ℕ) → StandsFirst bytes arguments left → answer ≡ next.Asked (meaning arguments)

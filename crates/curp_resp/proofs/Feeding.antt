@@ -21,11 +21,11 @@ first_rest (first ∷ bytes) byte e = cc
 
 -- ---- what was passed over
 
-pub passes_more : (old now new : Ahead) (front : List ℕ) (byte : ℕ) → Passes old now front → first_of now.bytes ≡ Some byte
-    → new ≡ record { bytes = drop 1 now.bytes; passed = one_more now.passed } → Passes old new (front ++ byte ∷ [])
-passes_more old now new front byte h first is = record {
-  front_is = append_assoc front (byte ∷ []) new.bytes ∙ ap (λ w. front ++ byte ∷ w.bytes) is ∙ ap (λ w. front ++ w) (sym (first_rest now.bytes byte first)) ∙ h.front_is;
-  counted = omega (arith, ap (λ w. w.passed) is, h.counted, length-append front (byte ∷ []));
+pub passes_more : (old now new : Ahead) (prefix : List ℕ) (byte : ℕ) → Passes old now prefix → first_of now.bytes ≡ Some byte
+    → new ≡ record { bytes = drop 1 now.bytes; passed = one_more now.passed } → Passes old new (prefix ++ byte ∷ [])
+passes_more old now new prefix byte h first is = record {
+  prefix_is = append_assoc prefix (byte ∷ []) new.bytes ∙ ap (λ w. prefix ++ byte ∷ w.bytes) is ∙ ap (λ w. prefix ++ w) (sym (first_rest now.bytes byte first)) ∙ h.prefix_is;
+  counted = omega (arith, ap (λ w. w.passed) is, h.counted, length-append prefix (byte ∷ []));
 }
 
 -- ---- what the bytes come to

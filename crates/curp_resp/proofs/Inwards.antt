@@ -1,4 +1,4 @@
--- A request of which a front was read, and what the next bytes make of it.
+-- A request of which a prefix was read, and what the next bytes make of it.
 use Rattle.std.proofs.Common.{◌≡◌, ◌≢◌, ℕ, zero, suc, ◌+◌, ◌-◌, ◌^◌, ◌<◌, Bool, true, false, List, [], ◌∷◌, ◌++◌, length, take, drop, refl, ap, sym, ◌∙◌, subst, arith, append_assoc, append-nil, length-append, length-drop}
 use Rattle.std.specs.Prelude.{◌==◌, if◌then◌else◌}
 use Rattle.std.proofs.Math.Seq.{drop-append_seam, take-append_seam}
@@ -10,7 +10,7 @@ use Rattle.curp_resp.specs.Input.{BreaksOff, NoneStandsFirst, SomeStandsFirst, S
 use Rattle.curp_resp.specs.Kept.{KeptArguments, Parts, kept_by, no_parts, nothing_kept}
 use Rattle.curp_resp.specs.KeptMeaning.{meaning_of_kept}
 use Rattle.curp_resp.specs.Language.{IsRequest, carriage_return, dollar, line_feed, star}
-use Rattle.curp_resp.specs.Next.{GivesRequest, LosesFront, RefusesBytes}
+use Rattle.curp_resp.specs.Next.{GivesRequest, LosesPrefix, RefusesBytes}
 use Rattle.curp_resp.specs.Read.{Read, Inside, Gives, Refuses, read_by}
 use Rattle.curp_resp.specs.declared.first.FirstRequest.TheVariants as first
 use Rattle.curp_resp.specs.declared.frame.Effect.{Effect}
@@ -25,7 +25,7 @@ use Rattle.curp_resp.specs.declared.number.NumberStep.TheVariants as number
 use Rattle.curp_resp.specs.declared.number.Digits.{Digits}
 use Rattle.curp_resp.specs.declared.reading.Progress.TheVariants as progress
 use Rattle.curp_resp.specs.declared.reading.Reading.{Reading}
-use Rattle.curp_resp.proofs.Fronts.{breaks_at, breaks_at_end, inside_none, place_more, reads, refuses_at, refuses_none, some_ahead}
+use Rattle.curp_resp.proofs.Prefixes.{breaks_at, breaks_at_end, inside_none, place_more, reads, refuses_at, refuses_none, some_ahead}
 use Rattle.curp_resp.proofs.Keeps.{kept_of, kept_read, meaning_kept, reads_kept}
 use Rattle.curp_resp.proofs.Numbers.{NumberSteps, number_steps}
 use Rattle.curp_resp.proofs.Runs as runs
@@ -171,12 +171,12 @@ refuses_parts bytes rest h =
 
 -- ---- where the reading stands
 
--- a front of the bytes was passed over, and counted, and the reading stands behind it
+-- a prefix of the bytes was passed over, and counted, and the reading stands behind it
 pub record Inwards (tells : Bool) (start now : Ahead) (left_start left_now : List ℕ) (reading : Reading) : Type 0 where
-  pub front : List ℕ
-  pub inside : read_first front ≡ Inside reading.frame reading.arguments
-  pub counted : now.passed ≡ place_behind start.passed (length front)
-  pub bytes : tells ≡ true → front ++ (now.bytes ++ left_now) ≡ start.bytes ++ left_start
+  pub prefix : List ℕ
+  pub inside : read_first prefix ≡ Inside reading.frame reading.arguments
+  pub counted : now.passed ≡ place_behind start.passed (length prefix)
+  pub bytes : tells ≡ true → prefix ++ (now.bytes ++ left_now) ≡ start.bytes ++ left_start
 
 abbrev pub fresh_reading : Reading
 fresh_reading = record { frame = fresh_frame; arguments = nothing_kept }
@@ -184,16 +184,16 @@ fresh_reading = record { frame = fresh_frame; arguments = nothing_kept }
 pub inwards_filled : (tells : Bool) (start now new : Ahead) (left_start left_now left_new : List ℕ) (reading : Reading) → Inwards tells start now left_start left_now reading
     → new.passed ≡ now.passed → (tells ≡ true → new.bytes ++ left_new ≡ now.bytes ++ left_now) → Inwards tells start new left_start left_new reading
 inwards_filled tells start now new left_start left_now left_new reading h passed same = record {
-  front = h.front;
+  prefix = h.prefix;
   inside = h.inside;
   counted = passed ∙ h.counted;
-  bytes = λ told. ap (λ w. h.front ++ w) (same told) ∙ h.bytes told;
+  bytes = λ told. ap (λ w. h.prefix ++ w) (same told) ∙ h.bytes told;
 }
 
--- what the bytes ahead come to behind the front
-behind_front : (front bytes : List ℕ) (reading : Reading) → read_first front ≡ Inside reading.frame reading.arguments → read_first (front ++ bytes) ≡ read_on bytes reading
-behind_front front bytes reading inside =
-    runs.read_append kept_by front bytes fresh_frame nothing_kept ∙ ap (λ r. runs.read_behind kept_by r bytes) inside
+-- what the bytes ahead come to behind the prefix
+behind_prefix : (prefix bytes : List ℕ) (reading : Reading) → read_first prefix ≡ Inside reading.frame reading.arguments → read_first (prefix ++ bytes) ≡ read_on bytes reading
+behind_prefix prefix bytes reading inside =
+    runs.read_append kept_by prefix bytes fresh_frame nothing_kept ∙ ap (λ r. runs.read_behind kept_by r bytes) inside
 
 fed_inside : (r : Read KeptArguments) (reading : Reading) (rest : List ℕ) → Feeds r progress.More reading rest → (r ≡ Inside reading.frame reading.arguments) × (rest ≡ [])
 fed_inside (Inside frame kept) reading rest h = (ap (λ n. Inside n.frame n.arguments) (sym h.1), h.2)
@@ -212,26 +212,26 @@ fed_refuses (Refuses others) reading rest h = cc h.1
 
 module _ (tells : Bool) (start now new : Ahead) (left_start left : List ℕ) (reading later : Reading) (h : Inwards tells start now left_start left reading)
     (passed : List ℕ) (passes : Passes now new passed) where
-  counts : new.passed ≡ place_behind start.passed (length (h.front ++ passed))
+  counts : new.passed ≡ place_behind start.passed (length (h.prefix ++ passed))
   counts =
-      passes.counted ∙ ap (λ p. place_behind p (length passed)) h.counted ∙ place_more start.passed (length h.front) (length passed)
-      ∙ ap (λ n. place_behind start.passed n) (sym (length-append h.front passed))
+      passes.counted ∙ ap (λ p. place_behind p (length passed)) h.counted ∙ place_more start.passed (length h.prefix) (length passed)
+      ∙ ap (λ n. place_behind start.passed n) (sym (length-append h.prefix passed))
 
-  whole_is : tells ≡ true → (h.front ++ now.bytes) ++ left ≡ start.bytes ++ left_start
-  whole_is told = append_assoc h.front now.bytes left ∙ h.bytes told
+  whole_is : tells ≡ true → (h.prefix ++ now.bytes) ++ left ≡ start.bytes ++ left_start
+  whole_is told = append_assoc h.prefix now.bytes left ∙ h.bytes told
 
-  front_is : (h.front ++ passed) ++ new.bytes ≡ h.front ++ now.bytes
-  front_is = append_assoc h.front passed new.bytes ∙ ap (λ w. h.front ++ w) passes.front_is
+  prefix_is : (h.prefix ++ passed) ++ new.bytes ≡ h.prefix ++ now.bytes
+  prefix_is = append_assoc h.prefix passed new.bytes ∙ ap (λ w. h.prefix ++ w) passes.prefix_is
 
   pub inwards_more : Feeds (read_on now.bytes reading) progress.More later new.bytes → Inwards tells start new left_start left later
   inwards_more fed =
       let inside = fed_inside (read_on now.bytes reading) later new.bytes fed in
-      let all : h.front ++ passed ≡ h.front ++ now.bytes = sym (append-nil (h.front ++ passed)) ∙ ap (λ w. (h.front ++ passed) ++ w) (sym inside.1) ∙ front_is in
+      let all : h.prefix ++ passed ≡ h.prefix ++ now.bytes = sym (append-nil (h.prefix ++ passed)) ∙ ap (λ w. (h.prefix ++ passed) ++ w) (sym inside.1) ∙ prefix_is in
       record {
-        front = h.front ++ passed;
-        inside = ap read_first all ∙ behind_front h.front now.bytes reading h.inside ∙ inside.0;
+        prefix = h.prefix ++ passed;
+        inside = ap read_first all ∙ behind_prefix h.prefix now.bytes reading h.inside ∙ inside.0;
         counted = counts;
-        bytes = λ told. sym (append_assoc (h.front ++ passed) new.bytes left) ∙ ap (λ w. w ++ left) front_is ∙ whole_is told;
+        bytes = λ told. sym (append_assoc (h.prefix ++ passed) new.bytes left) ∙ ap (λ w. w ++ left) prefix_is ∙ whole_is told;
       }
 
   pub lower_more : now.bytes ≢ [] → Feeds (read_on now.bytes reading) progress.More later new.bytes → rest_most later.frame < rest_most reading.frame
@@ -243,10 +243,10 @@ module _ (tells : Bool) (start now new : Ahead) (left_start left : List ℕ) (re
       → GivesRequest (start.bytes ++ left_start) start.passed (meaning_of_kept later.arguments) (new.bytes ++ left) new.passed
   gives_request told fed =
       let gives = fed_gives (read_on now.bytes reading) later new.bytes fed in
-      let whole = gives_parts (h.front ++ now.bytes) later.arguments new.bytes (behind_front h.front now.bytes reading h.inside ∙ gives) in
-      let first = runs.read_first (h.front ++ now.bytes) whole.0 new.bytes whole.1 in
-      let len : length (h.front ++ passed) ≡ length first.spelled =
-      omega (arith, ap length front_is, ap length first.is, length-append (h.front ++ passed) new.bytes, length-append first.spelled new.bytes) in
+      let whole = gives_parts (h.prefix ++ now.bytes) later.arguments new.bytes (behind_prefix h.prefix now.bytes reading h.inside ∙ gives) in
+      let first = runs.read_first (h.prefix ++ now.bytes) whole.0 new.bytes whole.1 in
+      let len : length (h.prefix ++ passed) ≡ length first.spelled =
+      omega (arith, ap length prefix_is, ap length first.is, length-append (h.prefix ++ passed) new.bytes, length-append first.spelled new.bytes) in
       record {
         spelled = first.spelled;
         arguments = whole.0.whole;
@@ -260,17 +260,17 @@ module _ (tells : Bool) (start now new : Ahead) (left_start left : List ℕ) (re
       → RefusesBytes (start.bytes ++ left_start) start.passed new.passed (new.bytes ++ left)
   refuses_bytes told fed =
       let refuses = fed_refuses (read_on now.bytes reading) later new.bytes fed in
-      let refused = refuses_parts (h.front ++ now.bytes) new.bytes (behind_front h.front now.bytes reading h.inside ∙ refuses) in
-      let at = refuses_at (h.front ++ now.bytes) new.bytes fresh_frame no_parts refused in
-      let len : length (h.front ++ passed) ≡ length at.front =
-      omega (arith, ap length front_is, ap length at.is, ap length at.left_is, length-append (h.front ++ passed) new.bytes, length-append at.front (at.byte ∷ at.others)) in
-      let all : at.front ++ (at.byte ∷ at.others ++ left) ≡ start.bytes ++ left_start =
-      sym (append_assoc at.front (at.byte ∷ at.others) left) ∙ ap (λ w. w ++ left) at.is ∙ whole_is told in
+      let refused = refuses_parts (h.prefix ++ now.bytes) new.bytes (behind_prefix h.prefix now.bytes reading h.inside ∙ refuses) in
+      let at = refuses_at (h.prefix ++ now.bytes) new.bytes fresh_frame no_parts refused in
+      let len : length (h.prefix ++ passed) ≡ length at.prefix =
+      omega (arith, ap length prefix_is, ap length at.is, ap length at.left_is, length-append (h.prefix ++ passed) new.bytes, length-append at.prefix (at.byte ∷ at.others)) in
+      let all : at.prefix ++ (at.byte ∷ at.others ++ left) ≡ start.bytes ++ left_start =
+      sym (append_assoc at.prefix (at.byte ∷ at.others) left) ∙ ap (λ w. w ++ left) at.is ∙ whole_is told in
       record {
-        place = length at.front;
-        broken = subst (λ w. BreaksOff w (length at.front)) all (breaks_at at.front at.byte (at.others ++ left) at.last at.parts at.inside at.refused);
+        place = length at.prefix;
+        broken = subst (λ w. BreaksOff w (length at.prefix)) all (breaks_at at.prefix at.byte (at.others ++ left) at.last at.parts at.inside at.refused);
         told = counts ∙ ap (λ n. place_behind start.passed n) len;
-        left = ap (λ w. w ++ left) at.left_is ∙ sym (ap (λ w. drop (length at.front) w) (sym all) ∙ drop-append_seam at.front (at.byte ∷ at.others ++ left));
+        left = ap (λ w. w ++ left) at.left_is ∙ sym (ap (λ w. drop (length at.prefix) w) (sym all) ∙ drop-append_seam at.prefix (at.byte ∷ at.others ++ left));
       }
 
 -- ---- where no byte comes
@@ -279,53 +279,53 @@ pub no_bytes : (bytes : List ℕ) → length bytes ≡ 0 → bytes ≡ []
 no_bytes [] h = refl
 no_bytes (byte ∷ bytes) h = absurd (omega arith)
 
-fresh_front : (front : List ℕ) (frame : Frame) (kept : KeptArguments) → read_first front ≡ Inside frame kept → is_fresh frame ≡ true → front ≡ []
-fresh_front [] frame kept h fresh = refl
-fresh_front (byte ∷ front) frame kept h fresh =
-    let past = bytes_lower (byte ∷ front) fresh_frame frame nothing_kept kept (λ e. absurd cc) h in
+fresh_prefix : (prefix : List ℕ) (frame : Frame) (kept : KeptArguments) → read_first prefix ≡ Inside frame kept → is_fresh frame ≡ true → prefix ≡ []
+fresh_prefix [] frame kept h fresh = refl
+fresh_prefix (byte ∷ prefix) frame kept h fresh =
+    let past = bytes_lower (byte ∷ prefix) fresh_frame frame nothing_kept kept (λ e. absurd cc) h in
     absurd (cc past.1)
 
-not_fresh_front : (front : List ℕ) (frame : Frame) (kept : KeptArguments) → read_first front ≡ Inside frame kept → is_fresh frame ≡ false → front ≢ []
-not_fresh_front front frame kept h past = λ none.
+not_fresh_prefix : (prefix : List ℕ) (frame : Frame) (kept : KeptArguments) → read_first prefix ≡ Inside frame kept → is_fresh frame ≡ false → prefix ≢ []
+not_fresh_prefix prefix frame kept h past = λ none.
     let stands : Inside fresh_frame nothing_kept ≡ Inside frame kept = ap read_first (sym none) ∙ h in
     let same : fresh_frame ≡ frame = cc in
     absurd (cc (ap is_fresh same))
 
 module _ (tells : Bool) (start now : Ahead) (left_start left : List ℕ) (reading : Reading) (h : Inwards tells start now left_start left reading) where
-  all_is : tells ≡ true → now.bytes ≡ [] → left ≡ [] → h.front ≡ start.bytes ++ left_start
-  all_is told none ended = sym (append-nil h.front) ∙ ap (λ w. h.front ++ w) (sym (ap (λ w. now.bytes ++ w) ended ∙ append-nil now.bytes ∙ none)) ∙ h.bytes told
+  all_is : tells ≡ true → now.bytes ≡ [] → left ≡ [] → h.prefix ≡ start.bytes ++ left_start
+  all_is told none ended = sym (append-nil h.prefix) ∙ ap (λ w. h.prefix ++ w) (sym (ap (λ w. now.bytes ++ w) ended ∙ append-nil now.bytes ∙ none)) ∙ h.bytes told
 
-  pub loses_front : tells ≡ true → LosesFront (start.bytes ++ left_start) (now.bytes ++ left)
-  loses_front told =
-      let parts = inside_parts h.front reading.frame reading.arguments h.inside in
+  pub loses_prefix : tells ≡ true → LosesPrefix (start.bytes ++ left_start) (now.bytes ++ left)
+  loses_prefix told =
+      let parts = inside_parts h.prefix reading.frame reading.arguments h.inside in
       record {
-        lost = h.front;
-        front = runs.read_front h.front reading.frame parts.0 parts.1;
-        none = inside_none h.front reading.frame parts.0 parts.1;
+        lost = h.prefix;
+        prefix = runs.read_prefix h.prefix reading.frame parts.0 parts.1;
+        none = inside_none h.prefix reading.frame parts.0 parts.1;
         left = h.bytes told;
       }
 
   pub ends_fresh : start.passed < 2 ^ 64 → tells ≡ true → now.bytes ≡ [] → left ≡ [] → is_fresh reading.frame ≡ true
       → (start.bytes ++ left_start ≡ []) × (now.bytes ++ left ≡ []) × (now.passed ≡ start.passed)
   ends_fresh range told none ended fresh =
-      let front = fresh_front h.front reading.frame reading.arguments h.inside fresh in (
-        sym (all_is told none ended) ∙ front,
+      let prefix = fresh_prefix h.prefix reading.frame reading.arguments h.inside fresh in (
+        sym (all_is told none ended) ∙ prefix,
         ap (λ w. w ++ left) none ∙ ended,
-        omega (arith, h.counted, ap length front),
+        omega (arith, h.counted, ap length prefix),
       )
 
   pub ends_inside : tells ≡ true → now.bytes ≡ [] → left ≡ [] → is_fresh reading.frame ≡ false
       → RefusesBytes (start.bytes ++ left_start) start.passed now.passed (now.bytes ++ left)
   ends_inside told none ended past =
-      let parts = inside_parts h.front reading.frame reading.arguments h.inside in
+      let parts = inside_parts h.prefix reading.frame reading.arguments h.inside in
       let all = all_is told none ended in
       record {
-        place = length h.front;
-        broken = subst (λ w. BreaksOff w (length h.front)) all (breaks_at_end h.front reading.frame parts.0 (not_fresh_front h.front reading.frame reading.arguments h.inside past) parts.1);
+        place = length h.prefix;
+        broken = subst (λ w. BreaksOff w (length h.prefix)) all (breaks_at_end h.prefix reading.frame parts.0 (not_fresh_prefix h.prefix reading.frame reading.arguments h.inside past) parts.1);
         told = h.counted;
         left =
             ap (λ w. w ++ left) none ∙ ended
-            ∙ sym (ap (λ w. drop (length h.front) w) (sym all ∙ sym (append-nil h.front)) ∙ drop-append_seam h.front []);
+            ∙ sym (ap (λ w. drop (length h.prefix) w) (sym all ∙ sym (append-nil h.prefix)) ∙ drop-append_seam h.prefix []);
       }
 
 -- ---- where a whole request is ahead at first, nothing is read
@@ -363,25 +363,25 @@ first_stands bytes =
     elim (read_first bytes) as (λ r. read_first bytes ≡ r → IsFirst bytes (first_by bytes r)) [
       | Inside frame kept ↦ λ e.
           let parts = inside_parts bytes frame kept e in
-          record { front = runs.read_front bytes frame parts.0 parts.1; none = inside_none bytes frame parts.0 parts.1 }
+          record { prefix = runs.read_prefix bytes frame parts.0 parts.1; none = inside_none bytes frame parts.0 parts.1 }
       | Gives kept rest ↦ λ e.
           let whole = gives_parts bytes kept rest e in
           let first = runs.read_first bytes whole.0 rest whole.1 in
           let len : length bytes - length rest ≡ length first.spelled = omega (arith, ap length first.is, length-append first.spelled rest) in
-          let front : take (length bytes - length rest) bytes ≡ first.spelled =
+          let prefix : take (length bytes - length rest) bytes ≡ first.spelled =
           ap (λ n. take n bytes) len ∙ ap (λ w. take (length first.spelled) w) (sym first.is) ∙ take-append_seam first.spelled rest in
           record {
             arguments = whole.0.whole;
             within = omega arith;
-            request = subst (λ w. IsRequest w whole.0.whole) (sym front) first.request;
+            request = subst (λ w. IsRequest w whole.0.whole) (sym prefix) first.request;
             meant = ap meaning_of_kept whole.2 ∙ meaning_kept whole.0;
           }
       | Refuses rest ↦ λ e.
           let at = refuses_at bytes rest fresh_frame no_parts (refuses_parts bytes rest e) in
           record {
-            place = length at.front;
-            within = omega (arith, ap length at.is, length-append at.front (at.byte ∷ at.others));
-            broken = subst (λ w. BreaksOff w (length at.front)) at.is (breaks_at at.front at.byte at.others at.last at.parts at.inside at.refused);
+            place = length at.prefix;
+            within = omega (arith, ap length at.is, length-append at.prefix (at.byte ∷ at.others));
+            broken = subst (λ w. BreaksOff w (length at.prefix)) at.is (breaks_at at.prefix at.byte at.others at.last at.parts at.inside at.refused);
           }
     ] refl
 

@@ -3,7 +3,7 @@ pub mod Behind
 pub mod Completes
 pub mod Exactly
 pub mod Feeding
-pub mod Fronts
+pub mod Prefixes
 pub mod InPlace
 pub mod Inwards
 pub mod Keeps

@@ -131,7 +131,7 @@ end_ends most read some within = record {
   within = within;
 }
 
--- ---- digits up to the most are a front of a number
+-- ---- digits up to the most are a prefix of a number
 
 pub record SomeEnd (most : ℕ) (read : Digits) : Type 0 where
   pub digits : List ℕ

@@ -29,8 +29,8 @@ refused false why x = refl
 pub four_pairs : (arguments : List (List ℕ)) (p q r s : Pair) → length arguments ≡ 8
     → two_pairs_alone (take 4 arguments) ≡ Ok (p, q) → two_pairs_alone (drop 4 arguments) ≡ Ok (r, s)
     → multi_alone arguments ≡ (if names_twice (p ∷ q ∷ r ∷ s ∷ []) then Err wrong.KeyTwice else Ok (command.Multi (p ∷ q ∷ r ∷ s ∷ [])))
-four_pairs (a ∷ b ∷ c ∷ d ∷ e ∷ f ∷ g ∷ h ∷ []) p q r s len front back =
-    let one = both_there (pair_in a b) (pair_in c d) p q front in
+four_pairs (a ∷ b ∷ c ∷ d ∷ e ∷ f ∷ g ∷ h ∷ []) p q r s len prefix back =
+    let one = both_there (pair_in a b) (pair_in c d) p q prefix in
     let two = both_there (pair_in e f) (pair_in g h) r s back in
     rw (one.0, one.1, two.0, two.1) (refused (names_twice (p ∷ q ∷ r ∷ s ∷ [])) wrong.KeyTwice (command.Multi (p ∷ q ∷ r ∷ s ∷ [])))
-four_pairs _ p q r s len front back = absurd (omega arith)
+four_pairs _ p q r s len prefix back = absurd (omega arith)

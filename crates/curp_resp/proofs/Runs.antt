@@ -3,7 +3,7 @@ use Rattle.std.proofs.Common.{◌≡◌, ℕ, List, [], ◌∷◌, ◌++◌, ref
 use Rattle.curp_resp.specs.Frames.{fresh_frame, frame_step}
 use Rattle.curp_resp.specs.Input.{StandsFirst}
 use Rattle.curp_resp.specs.Kept.{Parts, no_parts, parts_by}
-use Rattle.curp_resp.specs.Language.{IsRequest, IsFront}
+use Rattle.curp_resp.specs.Language.{IsRequest, IsViablePrefix}
 use Rattle.curp_resp.specs.Read.{Read, Inside, Gives, Refuses, read_by}
 use Rattle.curp_resp.specs.declared.frame.Effect.{Effect}
 use Rattle.curp_resp.specs.declared.frame.Frame.{Frame}
@@ -31,17 +31,17 @@ read_behind keep (Inside frame kept) bytes = read_by keep bytes frame kept
 read_behind keep (Gives kept rest) bytes = Gives kept (rest ++ bytes)
 read_behind keep (Refuses rest) bytes = Refuses (rest ++ bytes)
 
-pub read_append : {A : Type 0} (keep : Effect → ℕ → A → A) (front bytes : List ℕ) (frame : Frame) (kept : A)
-    → read_by keep (front ++ bytes) frame kept ≡ read_behind keep (read_by keep front frame kept) bytes
+pub read_append : {A : Type 0} (keep : Effect → ℕ → A → A) (prefix bytes : List ℕ) (frame : Frame) (kept : A)
+    → read_by keep (prefix ++ bytes) frame kept ≡ read_behind keep (read_by keep prefix frame kept) bytes
 read_append keep [] bytes frame kept = refl
-read_append keep (byte ∷ front) bytes frame kept =
-    elim (frame_step frame byte) as (λ s. frame_step frame byte ≡ s → read_by keep (byte ∷ front ++ bytes) frame kept ≡ read_behind keep (read_by keep (byte ∷ front) frame kept) bytes) [
+read_append keep (byte ∷ prefix) bytes frame kept =
+    elim (frame_step frame byte) as (λ s. frame_step frame byte ≡ s → read_by keep (byte ∷ prefix ++ bytes) frame kept ≡ read_behind keep (read_by keep (byte ∷ prefix) frame kept) bytes) [
       | step.On next does ↦ λ e.
-          read_on keep byte (front ++ bytes) frame kept next does e
-          ∙ read_append keep front bytes next (keep does byte kept)
-          ∙ ap (λ r. read_behind keep r bytes) (sym (read_on keep byte front frame kept next does e))
-      | step.Whole does ↦ λ e. read_whole keep byte (front ++ bytes) frame kept does e ∙ ap (λ r. read_behind keep r bytes) (sym (read_whole keep byte front frame kept does e))
-      | step.Refused ↦ λ e. read_refused keep byte (front ++ bytes) frame kept e ∙ ap (λ r. read_behind keep r bytes) (sym (read_refused keep byte front frame kept e))
+          read_on keep byte (prefix ++ bytes) frame kept next does e
+          ∙ read_append keep prefix bytes next (keep does byte kept)
+          ∙ ap (λ r. read_behind keep r bytes) (sym (read_on keep byte prefix frame kept next does e))
+      | step.Whole does ↦ λ e. read_whole keep byte (prefix ++ bytes) frame kept does e ∙ ap (λ r. read_behind keep r bytes) (sym (read_whole keep byte prefix frame kept does e))
+      | step.Refused ↦ λ e. read_refused keep byte (prefix ++ bytes) frame kept e ∙ ap (λ r. read_behind keep r bytes) (sym (read_refused keep byte prefix frame kept e))
     ] refl
 
 -- ---- what completes a request is read to its end
@@ -151,8 +151,8 @@ read_first bytes given rest h =
     let first = read_completes bytes fresh_frame no_parts given rest h in
     record { spelled = first.spelled; request = request_completes first.spelled given.whole first.completes; is = first.is }
 
-pub read_front : (bytes : List ℕ) (last : Frame) (then : Parts) → read_by parts_by bytes fresh_frame no_parts ≡ Inside last then → IsFront bytes
-read_front bytes last then h =
+pub read_prefix : (bytes : List ℕ) (last : Frame) (then : Parts) → read_by parts_by bytes fresh_frame no_parts ≡ Inside last then → IsViablePrefix bytes
+read_prefix bytes last then h =
     let some = inside_completable bytes fresh_frame last no_parts then (fresh_completion 0) h in
     record {
       rest = some.bytes;

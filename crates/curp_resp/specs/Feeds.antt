@@ -41,7 +41,7 @@ abbrev pub Fills : Taken → List ℕ → Type 0
 Fills (taken.Bytes count) bytes = length bytes ≡ count
 Fills taken.Failed bytes = bytes ≡ []
 
--- bytes of the front were passed over, and counted
-pub record Passes (old new : Ahead) (front : List ℕ) : Type 0 where
-  pub front_is : front ++ new.bytes ≡ old.bytes
-  pub counted : new.passed ≡ place_behind old.passed (length front)
+-- bytes of the prefix were passed over, and counted
+pub record Passes (old new : Ahead) (prefix : List ℕ) : Type 0 where
+  pub prefix_is : prefix ++ new.bytes ≡ old.bytes
+  pub counted : new.passed ≡ place_behind old.passed (length prefix)

@@ -4,7 +4,7 @@ use Rattle.curp_resp.specs.Feeds.{read_first}
 use Rattle.curp_resp.specs.Input.{BreaksOff, NoneStandsFirst}
 use Rattle.curp_resp.specs.Kept.{KeptArguments}
 use Rattle.curp_resp.specs.KeptMeaning.{meaning_of_kept}
-use Rattle.curp_resp.specs.Language.{IsFront, IsRequest}
+use Rattle.curp_resp.specs.Language.{IsViablePrefix, IsRequest}
 use Rattle.curp_resp.specs.Meaning.{meaning}
 use Rattle.curp_resp.specs.Read.{Read, Inside, Gives, Refuses}
 use Rattle.curp_resp.specs.declared.asked.Asked.{Asked}
@@ -33,7 +33,7 @@ pub record BeginsWithRequest (bytes : List ℕ) (asked : Asked) (len : ℕ) : Ty
 
 -- some request begins with the bytes, and none stands first among them
 pub record IsInside (bytes : List ℕ) : Type 0 where
-  pub front : IsFront bytes
+  pub prefix : IsViablePrefix bytes
   pub none : NoneStandsFirst bytes
 
 -- no spelling of a request allows the byte at some place

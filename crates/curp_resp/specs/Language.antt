@@ -82,7 +82,7 @@ abbrev pub IsRequest : List ℕ → List (List ℕ) → Type 0
 IsRequest spelled arguments = IsArray spelled arguments ⊎ ((arguments ≡ []) × IsEmpty spelled)
 
 -- some request begins with these bytes
-pub record IsFront (bytes : List ℕ) : Type 0 where
+pub record IsViablePrefix (bytes : List ℕ) : Type 0 where
   pub rest : List ℕ
   pub arguments : List (List ℕ)
   pub request : IsRequest (bytes ++ rest) arguments

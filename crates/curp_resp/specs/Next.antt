@@ -1,7 +1,7 @@
 -- The next request of an input.
 use Rattle.std.specs.Prelude.{◌≡◌, ℕ, List, [], ◌++◌, length, drop, Option, Some, None}
 use Rattle.curp_resp.specs.Input.{BreaksOff, NoneStandsFirst, place_behind}
-use Rattle.curp_resp.specs.Language.{IsRequest, IsFront}
+use Rattle.curp_resp.specs.Language.{IsRequest, IsViablePrefix}
 use Rattle.curp_resp.specs.Meaning.{meaning}
 use Rattle.curp_resp.specs.declared.asked.Asked.{Asked}
 use Rattle.curp_resp.specs.declared.requests.NextRequest.{NextRequest}
@@ -26,10 +26,10 @@ pub record GivesRequest (bytes : List ℕ) (passed : ℕ) (given : Asked) (rest 
   pub meant : given ≡ meaning arguments
   pub counted : passed_then ≡ place_behind passed (length spelled)
 
--- a front of a request is lost, and no whole request was in it
-pub record LosesFront (bytes rest : List ℕ) : Type 0 where
+-- a prefix of a request is lost, and no whole request was in it
+pub record LosesPrefix (bytes rest : List ℕ) : Type 0 where
   pub lost : List ℕ
-  pub front : IsFront lost
+  pub prefix : IsViablePrefix lost
   pub none : NoneStandsFirst lost
   pub left : lost ++ rest ≡ bytes
 
@@ -45,7 +45,7 @@ pub record RefusesBytes (bytes : List ℕ) (passed at : ℕ) (rest : List ℕ) :
 abbrev pub IsNextRequest : List ℕ → ℕ → NextRequest → List ℕ → ℕ → Type 0
 IsNextRequest bytes passed (next.Asked given) rest passed_then = GivesRequest bytes passed given rest passed_then
 IsNextRequest bytes passed next.End rest passed_then = (bytes ≡ []) × (rest ≡ []) × (passed_then ≡ passed)
-IsNextRequest bytes passed next.ReadFault rest passed_then = LosesFront bytes rest
+IsNextRequest bytes passed next.ReadFault rest passed_then = LosesPrefix bytes rest
 IsNextRequest bytes passed (next.BadRequest at) rest passed_then = RefusesBytes bytes passed at rest
 
 -- what every later call answers after this answer, if it repeats

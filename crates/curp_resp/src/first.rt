@@ -9,7 +9,7 @@ use crate::reading::{Progress, Reading};
 pub enum FirstRequest {
     /// A request of so many bytes, by what it means.
     Whole { asked: Asked, len: usize },
-    /// The bytes, if there are any, are a front of a request.
+    /// The bytes, if there are any, are a prefix of a request.
     Part,
     /// They are none, and begin with no request.
     Broken,

@@ -3,7 +3,7 @@ ghost use Rattle.std.specs.Prelude.{◌≡◌, ◌≢◌, ℕ, List, [], ◌++�
 ghost use Rattle.curp_resp.specs.Input.{BreaksOff, Decomposes, NoneStandsFirst};
 ghost use Rattle.curp_resp.specs.Language.{IsRequest};
 
-/// No request's bytes are a proper beginning of another's: where two stand at the front of the same bytes, they are one
+/// No request's bytes are a proper beginning of another's: where two stand at the prefix of the same bytes, they are one
 /// request.
 pub fn requests_are_prefix_free()
     ensures { (one other : List ℕ) (its others : List (List ℕ)) (rest left : List ℕ)

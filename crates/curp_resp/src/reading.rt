@@ -9,7 +9,7 @@ use crate::asked::Asked;
 use crate::command::meaning_of;
 use crate::frame::{Frame, Step};
 
-/// A request of which a front was read.
+/// A request of which a prefix was read.
 #[derive(Drop)]
 pub(crate) struct Reading {
     frame: Frame,

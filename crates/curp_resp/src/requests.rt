@@ -192,7 +192,7 @@ fn bad_request(window: &Window) -> NextRequest
 fn feed(window: &mut Window, reading: &mut Reading) -> Progress
     requires { window.old.passed < 2 ^ 64 }
     ensures read { Feeds (read_on window.old.bytes reading.old) result reading.new window.new.bytes }
-    ensures passes { (front : List ℕ) × Passes window.old window.new front }
+    ensures passes { (prefix : List ℕ) × Passes window.old window.new prefix }
 {
     'bytes: while let Some(byte) = window.first() {
         match reading.take(byte) {

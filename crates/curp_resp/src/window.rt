@@ -100,7 +100,7 @@ impl Window {
     }
 }
 
-/// Takes bytes of the source into the buffer, from its front on.
+/// Takes bytes of the source into the buffer, from its prefix on.
 fn take<S: Source>(source: &mut S, buffer: &mut Vec<u8>) -> Taken
     ensures len { vec_len buffer.new ≡ vec_len buffer.old }
     ensures fits { FitsBuffer result buffer.new.items }

@@ -86,7 +86,7 @@ module _ (es : List Record) (client : ℕ) (start end : ℕ) (within : start ≤
   below_ordered first point = elim (cases_lt end start) [
     | inl l ↦
         let e : Record = get_or es end no_record in
-        let front : is_before client e ≡ true = first_point.0 end no_record (omega arith) l in
+        let prefix : is_before client e ≡ true = first_point.0 end no_record (omega arith) l in
         let behind : is_before client e ≡ false = either (is_before client e) (is_below client first e.0) (point.1 end no_record (omega arith) (omega arith)) in
         absurd cc
     | inr le ↦ omega arith
@@ -94,12 +94,12 @@ module _ (es : List Record) (client : ℕ) (start end : ℕ) (within : start ≤
 
   pub below_left : (first : ℕ) → Point (is_before_first client first) es end → end ≤ length es → take start es ++ drop end es ≡ filter (λ (e : Record). not (is_below client first e.0)) es
   below_left first point fits = filter_run (λ (e : Record). not (is_below client first e.0)) es start end (below_ordered first point) fits
-      (λ k d l. let front = first_point.0 k d (omega arith) l in in_front (get_or es k d).0 front)
-      (λ k d l m. let front = first_point.1 k d l (omega arith) in let up = point.0 k d (omega arith) m in in_run (get_or es k d).0 front up)
+      (λ k d l. let prefix = first_point.0 k d (omega arith) l in in_prefix (get_or es k d).0 prefix)
+      (λ k d l m. let prefix = first_point.1 k d l (omega arith) in let up = point.0 k d (omega arith) m in in_run (get_or es k d).0 prefix up)
       (λ k d l m. let up = point.1 k d l m in behind_run (get_or es k d).0 up)
     where
-      in_front : (id : RequestId) → nat_lt id.client client ≡ true → not ((id.client == client) && nat_lt id.seq first) ≡ true
-      in_front id e = grind (arith, nat_tests)
+      in_prefix : (id : RequestId) → nat_lt id.client client ≡ true → not ((id.client == client) && nat_lt id.seq first) ≡ true
+      in_prefix id e = grind (arith, nat_tests)
 
       in_run : (id : RequestId) → nat_lt id.client client ≡ false → (nat_lt id.client client || ((id.client == client) && nat_lt id.seq first)) ≡ true → not ((id.client == client) && nat_lt id.seq first) ≡ false
       in_run id e f = grind (arith, nat_tests)
@@ -111,7 +111,7 @@ module _ (es : List Record) (client : ℕ) (start end : ℕ) (within : start ≤
   client_ordered point = elim (cases_lt end start) [
     | inl l ↦
         let e : Record = get_or es end no_record in
-        let front : nat_lt e.0.client client ≡ true = first_point.0 end no_record (omega arith) l in
+        let prefix : nat_lt e.0.client client ≡ true = first_point.0 end no_record (omega arith) l in
         let behind : nat_le e.0.client client ≡ false = point.1 end no_record (omega arith) (omega arith) in
         absurd (grind (arith, nat_tests))
     | inr le ↦ omega arith
@@ -119,12 +119,12 @@ module _ (es : List Record) (client : ℕ) (start end : ℕ) (within : start ≤
 
   pub client_left : Point (is_up_to client) es end → end ≤ length es → take start es ++ drop end es ≡ filter (λ (e : Record). not (e.0.client == client)) es
   client_left point fits = filter_run (λ (e : Record). not (e.0.client == client)) es start end (client_ordered point) fits
-      (λ k d l. let front = first_point.0 k d (omega arith) l in in_front (get_or es k d).0 front)
-      (λ k d l m. let front = first_point.1 k d l (omega arith) in let up = point.0 k d (omega arith) m in in_run (get_or es k d).0 front up)
+      (λ k d l. let prefix = first_point.0 k d (omega arith) l in in_prefix (get_or es k d).0 prefix)
+      (λ k d l m. let prefix = first_point.1 k d l (omega arith) in let up = point.0 k d (omega arith) m in in_run (get_or es k d).0 prefix up)
       (λ k d l m. let up = point.1 k d l m in behind_run (get_or es k d).0 up)
     where
-      in_front : (id : RequestId) → nat_lt id.client client ≡ true → not (id.client == client) ≡ true
-      in_front id e = grind (arith, nat_tests)
+      in_prefix : (id : RequestId) → nat_lt id.client client ≡ true → not (id.client == client) ≡ true
+      in_prefix id e = grind (arith, nat_tests)
 
       in_run : (id : RequestId) → nat_lt id.client client ≡ false → nat_le id.client client ≡ true → not (id.client == client) ≡ false
       in_run id e f = grind (arith, nat_tests)

@@ -101,25 +101,25 @@ limit_tail : (x : ℕ) (xs : List ℕ) (limit at : ℕ) → IsLimit (x ∷ xs) l
 limit_tail x xs limit at point =
     (λ k d l m. point.0 (suc k) d (omega arith) (omega arith), λ k d l m. point.1 (suc k) d (omega arith) (omega arith))
 
-limit_front : (x : ℕ) (xs : List ℕ) (limit : ℕ) → IsLimit (x ∷ xs) limit zero → IsLimit xs limit zero
-limit_front x xs limit point = (λ k d l m. absurd (omega arith), λ k d l m. point.1 (suc k) d (omega arith) (omega arith))
+limit_prefix : (x : ℕ) (xs : List ℕ) (limit : ℕ) → IsLimit (x ∷ xs) limit zero → IsLimit xs limit zero
+limit_prefix x xs limit point = (λ k d l m. absurd (omega arith), λ k d l m. point.1 (suc k) d (omega arith) (omega arith))
 
-pub front_below : (xs : List ℕ) (limit at : ℕ) → IsLimit xs limit at → take at xs ≡ filter (is_below limit) xs
-front_below [] limit zero point = refl
-front_below [] limit (suc at) point = refl
-front_below (x ∷ xs) limit zero point =
+pub prefix_below : (xs : List ℕ) (limit at : ℕ) → IsLimit xs limit at → take at xs ≡ filter (is_below limit) xs
+prefix_below [] limit zero point = refl
+prefix_below [] limit (suc at) point = refl
+prefix_below (x ∷ xs) limit zero point =
     let e : nat_lt x limit ≡ false = point.1 0 x (omega arith) (omega arith) in
-    rw e (front_below xs limit zero (limit_front x xs limit point))
-front_below (x ∷ xs) limit (suc at) point =
+    rw e (prefix_below xs limit zero (limit_prefix x xs limit point))
+prefix_below (x ∷ xs) limit (suc at) point =
     let e : nat_lt x limit ≡ true = point.0 0 x (omega arith) (omega arith) in
-    rw e (ap (λ ys. x ∷ ys) (front_below xs limit at (limit_tail x xs limit at point)))
+    rw e (ap (λ ys. x ∷ ys) (prefix_below xs limit at (limit_tail x xs limit at point)))
 
 pub rest_not_below : (xs : List ℕ) (limit at : ℕ) → IsLimit xs limit at → drop at xs ≡ filter (λ n. not (is_below limit n)) xs
 rest_not_below [] limit zero point = refl
 rest_not_below [] limit (suc at) point = refl
 rest_not_below (x ∷ xs) limit zero point =
     let e : nat_lt x limit ≡ false = point.1 0 x (omega arith) (omega arith) in
-    rw e (ap (λ ys. x ∷ ys) (rest_not_below xs limit zero (limit_front x xs limit point)))
+    rw e (ap (λ ys. x ∷ ys) (rest_not_below xs limit zero (limit_prefix x xs limit point)))
 rest_not_below (x ∷ xs) limit (suc at) point =
     let e : nat_lt x limit ≡ true = point.0 0 x (omega arith) (omega arith) in
     rw e (rest_not_below xs limit at (limit_tail x xs limit at point))

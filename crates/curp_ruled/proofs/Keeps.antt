@@ -74,9 +74,9 @@ dite_below a b no_more = dite (dec_le b a) (λ le. absurd (no_more le)) (λ ne. 
 suc_apart : {n : ℕ} → suc n ≡ 0 → ⊥
 suc_apart e = omega arith
 
-front_nil : (xs ys : List Letter) → xs ++ ys ≡ [] → xs ≡ []
-front_nil [] ys e = refl
-front_nil (x ∷ xs) ys e = absurd (suc_apart (ap length e))
+prefix_nil : (xs ys : List Letter) → xs ++ ys ≡ [] → xs ≡ []
+prefix_nil [] ys e = refl
+prefix_nil (x ∷ xs) ys e = absurd (suc_apart (ap length e))
 
 pub begins : DeliversParcels [] (taker ∷ [])
 begins = (
@@ -217,5 +217,5 @@ learns pass v may items views h at =
     let k = (h.5 pass v at).1 may in
     let whole : (p : ℕ) → of p v.taken ++ of p items ≡ h.2 p = λ p. ap (λ l. of p l ++ of p items) k.1 ∙ sym (filter-append (λ (y : Letter). eqb y.sender p) h.3 items) ∙ h.4 p in (
       (λ q lt. record { rest = of q items; is = whole q ∙ sym (k.3 q lt).1 }),
-      (λ p le. front_nil (of p v.taken) (of p items) (whole p ∙ (k.2 p le).1)),
+      (λ p le. prefix_nil (of p v.taken) (of p items) (whole p ∙ (k.2 p le).1)),
     )

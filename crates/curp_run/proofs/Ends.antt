@@ -12,7 +12,7 @@ pub ends_with : {A : Type 0} (r : Result A Status) (e : Status) → IsErrAnd r (
 ends_with (Ok _) e h = absurd h
 ends_with (Err s) e h = ap Err h
 
--- for want of memory
+-- out of memory
 pub of_memory : {A : Type 0} (r : Result A Status) → IsErrAnd r (λ s. s ≡ status.NoMemory) → IfErr r IsOfWriting
 of_memory (Ok _) h = tt
 of_memory (Err s) h = subst IsOfWriting (sym h) tt

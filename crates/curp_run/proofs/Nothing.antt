@@ -11,7 +11,7 @@ use Rattle.curp_words.specs.declared.task.Task.TheVariants.{Play, Make, Live, Ch
 -- nothing of a text stands behind what was held
 nothing_held : (before after text : List ℕ) → after ≡ before → HoldsPart before after text
 nothing_held before after text same =
-    subst (λ (x : List ℕ). HoldsPart before x text) (sym same) (record { part = []; front = record { rest = text; is = refl }; added = sym (append-nil before) })
+    subst (λ (x : List ℕ). HoldsPart before x text) (sym same) (record { part = []; prefix = record { rest = text; is = refl }; added = sym (append-nil before) })
 
 -- a script of which nothing was done
 nothing_of : (ending : Ending) (whole : List ℕ) (took : TookBytes) (wrote : WroteBytes) → wrote.after ≡ wrote.before → DoesScript ending whole took wrote status.NoMemory
@@ -20,7 +20,7 @@ nothing_of ending whole took wrote same = record {
   end = λ t c. absurd cc;
   complete = λ t w r f. inr refl;
   text = λ t k c. absurd cc;
-  front = λ t k. nothing_held _ _ _ same;
+  prefix = λ t k. nothing_held _ _ _ same;
 }
 
 pub nothing_done : (asked : Option Task) (took : TookBytes) (wrote : WroteBytes) → wrote.after ≡ wrote.before → DoesAsked asked took wrote status.NoMemory
@@ -39,14 +39,14 @@ nothing_done (Some (Make plan form)) took wrote same = record {
   of_making = inr (inr refl);
   complete = λ f. inr refl;
   text = λ t c. absurd cc;
-  front = λ t. nothing_held _ _ _ same;
+  prefix = λ t. nothing_held _ _ _ same;
   reads = λ c f. absurd cc;
 }
 nothing_done (Some (Live plan)) took wrote same = record {
   of_making = inr (inr refl);
   complete = λ f. inr refl;
   text = λ t c. absurd cc;
-  front = λ t. inl same;
+  prefix = λ t. inl same;
 }
 nothing_done (Some Check) took wrote same = record {
   ends = λ t c. absurd cc;
@@ -55,7 +55,7 @@ nothing_done (Some Check) took wrote same = record {
   end = λ t c. absurd cc;
   complete = λ t w r f. inr refl;
   text = λ t c. absurd cc;
-  front = λ t k. inl same;
+  prefix = λ t k. inl same;
 }
 nothing_done (Some Manage) took wrote same = record {
   does = nothing_of _ _ took wrote same;
@@ -65,12 +65,12 @@ nothing_done (Some Manage) took wrote same = record {
 nothing_done (Some (Resp plan)) took wrote same = record {
   ends = λ requests rest t d c. absurd cc;
   text = λ requests rest t k d c. absurd cc;
-  front = λ requests rest t k d. nothing_held _ _ _ same;
+  prefix = λ requests rest t k d. nothing_held _ _ _ same;
   at_fault = λ t k c. absurd cc;
   passed_on = λ c. absurd cc;
   plays = λ requests rest t d c o. absurd cc;
   as_one_thread = λ requests c s. absurd cc;
-  front_of_one_thread = λ requests c. absurd cc;
+  prefix_of_one_thread = λ requests c. absurd cc;
   shows_replied = λ requests c. absurd cc;
   completes_in_turn = λ requests c s. absurd cc;
 }

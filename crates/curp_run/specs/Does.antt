@@ -14,10 +14,10 @@ use Rattle.curp_runner.specs.Reading.{script_in}
 use Rattle.curp_runner.specs.Status.{EndsWhole, code_of, is_cut_short, status_of}
 use Rattle.curp_runner.specs.declared.status.Status.{Status}
 use Rattle.curp_runner.specs.declared.status.Status.TheVariants as status
-use Rattle.curp_judge.specs.Check.{EndsAs, EndsJudged, IsBrokenClaim, IsJudgedFront, is_verdict, verdict_text}
+use Rattle.curp_judge.specs.Check.{EndsAs, EndsJudged, IsBrokenClaim, IsJudgedPrefix, is_verdict, verdict_text}
 use Rattle.curp_resp.specs.Input.{Decomposes}
 use Rattle.curp_resp.specs.Meaning.{meaning}
-use Rattle.curp_run.specs.Live.{IsLive, IsLiveFront}
+use Rattle.curp_run.specs.Live.{IsLive, IsLivePrefix}
 use Rattle.curp_show.specs.Show.{EndsMade, IsOfMaking}
 use Rattle.curp_script.specs.Script.{Ending, Whole}
 use Rattle.curp_session.specs.Session.{EndsSession, HoldsAnswers, ShowsReplied, commands_in, replies_of_one_thread, session, session_text}
@@ -80,14 +80,14 @@ IsPassedOn wrote = (wrote.flushed ≡ true) ⊎ (wrote.after ≡ wrote.before)
 
 -- a script is read line by line, and done: it ends so, and that is its whole text
 pub record DoesScript (ending : Ending) (whole : List ℕ) (took : TookBytes) (wrote : WroteBytes) (s : Status) : Type 0 where
-  -- it ends as the script does, unless a fault or want of memory cuts it short
+  -- it ends as the script does, unless a fault or running out of memory cuts it short
   pub ends : took.tells ≡ true → is_cut_short s ≡ false → s ≡ status_of ending
   pub end : took.tells ≡ true → s ≡ status.Ok → took.after ≡ []
   pub complete : took.tells ≡ true → ending ≡ Whole
       → EndsWhole s took.faults_before took.faults_after wrote.faults_before wrote.faults_after
-  -- the text of the script; where it is cut short, a front of the text
+  -- the text of the script; where it is cut short, a prefix of the text
   pub text : took.tells ≡ true → wrote.tells ≡ true → is_cut_short s ≡ false → wrote.after ≡ wrote.before ++ whole
-  pub front : took.tells ≡ true → wrote.tells ≡ true → HoldsPart wrote.before wrote.after whole
+  pub prefix : took.tells ≡ true → wrote.tells ≡ true → HoldsPart wrote.before wrote.after whole
 
 -- `play`: the text of the script
 pub record PlaysScript (took : TookBytes) (wrote : WroteBytes) (s : Status) : Type 0 where
@@ -105,12 +105,12 @@ pub record TellsHistory (took : TookBytes) (wrote : WroteBytes) (s : Status) : T
   pub does : DoesScript (script_in took.before).body.ending (claim_of (script_in took.before)) took wrote s
   pub order : took.tells ≡ true → s ≡ status.Ok → IsClaimOfOrder (claim_of (script_in took.before))
 
--- `make`: what the plan gives, or a front of it
+-- `make`: what the plan gives, or a prefix of it
 pub record MakesScript (plan : MakePlan) (form : Output) (wrote : WroteBytes) (s : Status) : Type 0 where
   pub of_making : IsOfMaking s
   pub complete : EndsMade s wrote.faults_before wrote.faults_after
   pub text : wrote.tells ≡ true → s ≡ status.Ok → wrote.after ≡ wrote.before ++ made_text plan form
-  pub front : wrote.tells ≡ true → HoldsPart wrote.before wrote.after (made_text plan form)
+  pub prefix : wrote.tells ≡ true → HoldsPart wrote.before wrote.after (made_text plan form)
   -- a made script is read whole, as the plan's
   pub reads : s ≡ status.Ok → form ≡ output.Script → script_in (made_text plan output.Script) ≡ made_script plan
 
@@ -120,7 +120,7 @@ pub record RunsLive (plan : LivePlan) (wrote : WroteBytes) (s : Status) : Type 0
   pub of_making : IsOfMaking s
   pub complete : EndsMade s wrote.faults_before wrote.faults_after
   pub text : wrote.tells ≡ true → s ≡ status.Ok → IsLive plan wrote.before wrote.after
-  pub front : wrote.tells ≡ true → IsLiveFront plan wrote.before wrote.after
+  pub prefix : wrote.tells ≡ true → IsLivePrefix plan wrote.before wrote.after
 
 -- `check`: the verdict on the claim, read to its end, or on the first line that is refused, is too long or is one too many
 pub record JudgesClaim (took : TookBytes) (wrote : WroteBytes) (s : Status) : Type 0 where
@@ -133,7 +133,7 @@ pub record JudgesClaim (took : TookBytes) (wrote : WroteBytes) (s : Status) : Ty
   pub complete : took.tells ≡ true → (claim_in took.before).ending ≡ Whole
       → EndsJudged s took.faults_before took.faults_after wrote.faults_before wrote.faults_after
   pub text : wrote.tells ≡ true → is_cut_short s ≡ false → wrote.after ≡ wrote.before ++ verdict_text s
-  pub front : took.tells ≡ true → wrote.tells ≡ true → IsJudgedFront took.before wrote.before wrote.after
+  pub prefix : took.tells ≡ true → wrote.tells ≡ true → IsJudgedPrefix took.before wrote.before wrote.after
 
 -- `manage`: what the manager's definition says over the inputs that are kept
 pub record ManagesOrders (took : TookBytes) (wrote : WroteBytes) (s : Status) : Type 0 where
@@ -151,7 +151,7 @@ pub record AnswersRequests (plan : RespPlan) (took : TookBytes) (wrote : WroteBy
   pub text : (requests : List (List (List ℕ))) (rest : List ℕ) → took.tells ≡ true → wrote.tells ≡ true
       → Decomposes requests took.before rest → is_cut_short s ≡ false
       → wrote.after ≡ wrote.before ++ session_text plan requests rest
-  pub front : (requests : List (List (List ℕ))) (rest : List ℕ) → took.tells ≡ true → wrote.tells ≡ true
+  pub prefix : (requests : List (List (List ℕ))) (rest : List ℕ) → took.tells ≡ true → wrote.tells ≡ true
       → Decomposes requests took.before rest → HoldsPart wrote.before wrote.after (session_text plan requests rest)
   -- where reading failed, what is due for the whole requests that were taken
   pub at_fault : took.tells ≡ true → wrote.tells ≡ true → s ≡ status.ReadFault
@@ -165,10 +165,10 @@ pub record AnswersRequests (plan : RespPlan) (took : TookBytes) (wrote : WroteBy
         header = Some (header_of plan.f);
         body = record { steps = (session plan requests).served.steps; ending = Whole };
       }
-  -- the replies are those of one thread, or, where a limit was met, a front of these
+  -- the replies are those of one thread, or, where a limit was met, a prefix of these
   pub as_one_thread : (requests : List (List (List ℕ))) → is_cut_short s ≡ false
       → (session plan requests).served.stopped ≡ None → (session plan requests).replies ≡ replies_of_one_thread requests
-  pub front_of_one_thread : (requests : List (List (List ℕ))) → is_cut_short s ≡ false
+  pub prefix_of_one_thread : (requests : List (List (List ℕ))) → is_cut_short s ≡ false
       → IsPrefix (session plan requests).replies (replies_of_one_thread requests)
   -- also where a limit was met, its run shows what was replied
   pub shows_replied : (requests : List (List (List ℕ))) → is_cut_short s ≡ false

@@ -87,12 +87,12 @@ pub record IsLive (plan : LivePlan) (old new : List ℕ) : Type 0 where
   pub order : OrderStands (world (live_header plan) steps)
   pub shows : Shows plan steps
 
--- a front of such a script, an empty line, and the script's text was written
+-- a prefix of such a script, an empty line, and the script's text was written
 pub record IsLivePart (plan : LivePlan) (old new : List ℕ) : Type 0 where
   pub text : List ℕ
   pub is : IsLiveText plan text
   pub part : HoldsPart old new (played text)
 
--- nothing was written, or such a front
-abbrev pub IsLiveFront : LivePlan → List ℕ → List ℕ → Type 0
-IsLiveFront plan old new = (new ≡ old) ⊎ IsLivePart plan old new
+-- nothing was written, or such a prefix
+abbrev pub IsLivePrefix : LivePlan → List ℕ → List ℕ → Type 0
+IsLivePrefix plan old new = (new ≡ old) ⊎ IsLivePart plan old new

@@ -21,7 +21,7 @@ words_of arguments = map string_bytes (drop 1 arguments)
 abbrev pub asked : List (String Global) → Option Task
 asked arguments = task_in (words_of arguments)
 
--- words that are no text are no command line; any other error of reading them is want of memory
+-- words that are no text are no command line; any other error of reading them is running out of memory
 abbrev pub unread_words : ErrorKind → Status
 unread_words kind.InvalidData = status.Usage
 unread_words _ = status.NoMemory

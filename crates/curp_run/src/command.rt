@@ -13,7 +13,7 @@ use curp_judge::check_claim;
 use curp_manage::manage_orders;
 use curp_play::{play_history, play_script};
 use curp_runner::Status;
-use curp_seat::Gate;
+use curp_seat::Observer;
 use curp_session::answer_requests;
 use curp_session::laws::sessions_are_of_one_thread;
 use curp_words::{Report, Task, WordsError};
@@ -27,15 +27,15 @@ use std::thread::Threads;
 /// runs nodes on threads, and writes the script of what they did and its text, as `live_script`; `check` reads a
 /// history and an order, and writes whether the order is one of the history, as `check_claim`; `manage` reads orders for
 /// a manager whose journal is kept, and writes what it does, as `manage_orders`; `resp` has the commands of requests of
-/// Redis' protocol served by a cluster, and replies, as `answer_requests`. The gate is told of each step that
+/// Redis' protocol served by a cluster, and replies, as `answer_requests`. The observer is told of each step that
 /// a node on a thread makes.
-pub fn run<R: Threads + Wait + Sync, G: Gate + Sync, S: Source, K: Sink>(
+pub fn run<R: Threads + Wait + Sync, G: Observer + Sync, S: Source, K: Sink>(
     rt: &R,
     alloc: Global,
     arguments: &[String],
     source: &mut S,
     sink: &mut K,
-    gate: &G,
+    observer: &G,
 ) -> Status
     // What it took, what it wrote and how it ended is as `DoesRun` says of the task that the words ask for.
     ensures ran { DoesRun (asked arguments.now) (took_of S.tells S.left S.faults source.old source.new)
@@ -51,7 +51,7 @@ pub fn run<R: Threads + Wait + Sync, G: Gate + Sync, S: Source, K: Sink>(
         Ok(Task::Play(Report::Steps)) => play_script(alloc, source, sink),
         Ok(Task::Play(Report::History)) => play_history(alloc, source, sink),
         Ok(Task::Make(plan, output)) => make_script(alloc, &plan, output, sink),
-        Ok(Task::Live(plan)) => live_script(rt, alloc, &plan, gate, sink),
+        Ok(Task::Live(plan)) => live_script(rt, alloc, &plan, observer, sink),
         Ok(Task::Check) => check_claim(alloc, source, sink),
         Ok(Task::Manage) => manage_orders(alloc, source, sink),
         Ok(Task::Resp(plan)) => {

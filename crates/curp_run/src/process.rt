@@ -14,7 +14,7 @@ use crate::command::run;
 use crate::complaints::{Complaints, complaints_of};
 use curp_io::{Sink, Source, StdSink, StdSource};
 use curp_runner::Status;
-use curp_seat::{Gate, OpenGate};
+use curp_seat::{Observer, Unobserved};
 use curp_words::Task;
 use std::alloc::Global;
 use std::io::BufWriter;
@@ -53,7 +53,7 @@ fn run_process<S: Source, K: Sink>(
     ensures { TellsStatus (exit_status result) }
 {
     match arguments_of(rt) {
-        Ok(arguments) => run_to_end(rt, rt.alloc(), &arguments, source, sink, rt, &OpenGate),
+        Ok(arguments) => run_to_end(rt, rt.alloc(), &arguments, source, sink, rt, &Unobserved),
         Err(error) => told(rt, &Complaints::of_status(of_unread_words(&error))),
     }
 }
@@ -68,14 +68,14 @@ fn arguments_of(rt: &(impl Env + AllocGlobal)) -> io::Result<Vec<String>> {
 }
 
 /// Does what the arguments say, as `run`, prints what there is to complain of, and gives the number of how it ended.
-pub fn run_to_end<R: Threads + Wait + Sync, G: Gate + Sync, S: Source, K: Sink, E: Eprint>(
+pub fn run_to_end<R: Threads + Wait + Sync, G: Observer + Sync, S: Source, K: Sink, E: Eprint>(
     rt: &R,
     alloc: Global,
     arguments: &[String],
     source: &mut S,
     sink: &mut K,
     errors: &E,
-    gate: &G,
+    observer: &G,
 ) -> ExitCode
     // It ends with the number of a status, and what that run took and wrote is as `run` says of this status.
     ensures ran { EndsWith (exit_status result) (asked arguments.now) (took_of S.tells S.left S.faults source.old source.new)
@@ -94,7 +94,7 @@ pub fn run_to_end<R: Threads + Wait + Sync, G: Gate + Sync, S: Source, K: Sink, 
     ensures write_fault { exit_status result ≡ 5 → Rose (K.faults sink.old) (K.faults sink.new) }
     ensures no_write_fault { exit_status result ≢ 5 → SameCount (K.faults sink.old) (K.faults sink.new) }
 {
-    let status = run(rt, alloc, arguments, source, sink, gate);
+    let status = run(rt, alloc, arguments, source, sink, observer);
     let found = complaints_of(alloc, status, arguments);
     let complaints = found.unwrap_or(Complaints::of_status(status));
     told(errors, &complaints)

@@ -21,17 +21,17 @@ use std::alloc::Global;
 /// The script is written line by line, as its steps are made.
 pub fn make_script<K: Sink>(alloc: Global, plan: &MakePlan, output: Output, sink: &mut K) -> Status
     requires { IsPlan plan.now }
-    // It writes what the plan gives and passes it on; where it is cut short, it writes a front of it.
+    // It writes what the plan gives and passes it on; where it is cut short, it writes a prefix of it.
     ensures wrote { K.tells sink.old ≡ true → result ≡ Status.Ok
         → K.held sink.new ≡ K.held sink.old ++ made_text plan.now output }
-    ensures front { K.tells sink.old ≡ true
+    ensures prefix { K.tells sink.old ≡ true
         → HoldsPart (K.held sink.old) (K.held sink.new) (made_text plan.now output) }
     ensures flushed { result ≡ Status.Ok → K.flushed sink.new ≡ true }
     // A made script is read to its end, as the plan's header and steps: none of its lines is refused.
     ensures reads { result ≡ Status.Ok → output ≡ Output.Script
         → script_in (made_text plan.now output) ≡ made_script plan.now }
 
-    // A write fault comes exactly where the count of faults rose; want of memory is the one other failure.
+    // A write fault comes exactly where the count of faults rose; running out of memory is the one other failure.
     ensures of_making { IsOfMaking result }
     ensures complete { EndsMade result (K.faults sink.old) (K.faults sink.new) }
     ensures write_fault { result ≡ Status.WriteFault → Rose (K.faults sink.old) (K.faults sink.new) }
@@ -51,7 +51,7 @@ fn write_made<K: Sink>(
     requires { IsPlan plan.now }
     ensures wrote { K.tells sink.old ≡ true
         → OnOk result (K.held sink.new ≡ K.held sink.old ++ made_text plan.now output) }
-    ensures front { K.tells sink.old ≡ true
+    ensures prefix { K.tells sink.old ≡ true
         → HoldsPart (K.held sink.old) (K.held sink.new) (made_text plan.now output) }
     ensures reads { OnOk result (output ≡ Output.Script
         → script_in (made_text plan.now output) ≡ made_script plan.now) }
@@ -71,7 +71,7 @@ fn write_script<K: Sink>(alloc: Global, plan: &MakePlan, sink: &mut K) -> Result
     requires { IsPlan plan.now }
     ensures wrote { K.tells sink.old ≡ true
         → OnOk result (K.held sink.new ≡ K.held sink.old ++ script_text plan.now) }
-    ensures front { K.tells sink.old ≡ true → HoldsPart (K.held sink.old) (K.held sink.new) (script_text plan.now) }
+    ensures prefix { K.tells sink.old ≡ true → HoldsPart (K.held sink.old) (K.held sink.new) (script_text plan.now) }
     ensures reads { OnOk result (script_in (script_text plan.now) ≡ made_script plan.now) }
     ensures writing { IfErr result IsOfWriting }
     ensures tells { K.tells sink.old ≡ true → K.tells sink.new ≡ true }
@@ -95,7 +95,7 @@ fn write_begun<K: Sink>(
     requires in_range { IsPlan plan.now }
     ensures wrote { K.tells sink.old ≡ true
         → OnOk result (K.held sink.new ≡ K.held sink.old ++ script_text plan.now) }
-    ensures front { K.tells sink.old ≡ true → HoldsPart (K.held sink.old) (K.held sink.new) (script_text plan.now) }
+    ensures prefix { K.tells sink.old ≡ true → HoldsPart (K.held sink.old) (K.held sink.new) (script_text plan.now) }
     ensures reads { OnOk result (script_in (script_text plan.now) ≡ made_script plan.now) }
     ensures writing { IfErr result IsOfWriting }
     ensures tells { K.tells sink.old ≡ true → K.tells sink.new ≡ true }
@@ -118,7 +118,7 @@ fn write_steps<K: Sink>(
     requires { maker.old.made + count ≤ maker.old.plan.steps }
     ensures wrote { K.tells sink.old ≡ true
         → OnOk result (K.held sink.new ≡ K.held sink.old ++ lines_text (steps_from count maker.old)) }
-    ensures front { K.tells sink.old ≡ true
+    ensures prefix { K.tells sink.old ≡ true
         → HoldsPart (K.held sink.old) (K.held sink.new) (lines_text (steps_from count maker.old)) }
     ensures printable { OnOk result (ArePrintable (steps_from count maker.old)) }
     ensures writing { IfErr result IsOfWriting }
@@ -138,7 +138,7 @@ fn write_steps<K: Sink>(
 // Writes a line, with a line feed.
 fn write_line<K: Sink>(mut line: Vec<u8>, sink: &mut K) -> Result<(), Status>
     ensures wrote { K.tells sink.old ≡ true → OnOk result (K.held sink.new ≡ K.held sink.old ++ line_text line.items) }
-    ensures front { K.tells sink.old ≡ true → HoldsPart (K.held sink.old) (K.held sink.new) (line_text line.items) }
+    ensures prefix { K.tells sink.old ≡ true → HoldsPart (K.held sink.old) (K.held sink.new) (line_text line.items) }
     ensures writing { IfErr result IsOfWriting }
     ensures tells { K.tells sink.old ≡ true → K.tells sink.new ≡ true }
     ensures fault { result ≡ Err Status.WriteFault → Rose (K.faults sink.old) (K.faults sink.new) }
@@ -154,7 +154,7 @@ fn write_summary<K: Sink>(alloc: Global, plan: &MakePlan, sink: &mut K) -> Resul
     requires { IsPlan plan.now }
     ensures wrote { K.tells sink.old ≡ true → OnOk result (K.held sink.new
         ≡ K.held sink.old ++ summary_text (summary_of (after plan.now.steps (begun plan.now)))) }
-    ensures front { K.tells sink.old ≡ true → HoldsPart (K.held sink.old) (K.held sink.new)
+    ensures prefix { K.tells sink.old ≡ true → HoldsPart (K.held sink.old) (K.held sink.new)
         (summary_text (summary_of (after plan.now.steps (begun plan.now)))) }
     ensures tells { K.tells sink.old ≡ true → K.tells sink.new ≡ true }
     ensures writing { IfErr result IsOfWriting }
@@ -177,7 +177,7 @@ fn write_numbers<K: Sink>(
     requires { maker.old.made + count ≤ maker.old.plan.steps }
     ensures wrote { K.tells sink.old ≡ true → OnOk result (K.held sink.new
         ≡ K.held sink.old ++ summary_text (summary_of (after count maker.old))) }
-    ensures front { K.tells sink.old ≡ true → HoldsPart (K.held sink.old) (K.held sink.new)
+    ensures prefix { K.tells sink.old ≡ true → HoldsPart (K.held sink.old) (K.held sink.new)
         (summary_text (summary_of (after count maker.old))) }
     ensures tells { K.tells sink.old ≡ true → K.tells sink.new ≡ true }
     ensures writing { IfErr result IsOfWriting }

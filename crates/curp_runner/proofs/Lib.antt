@@ -2,5 +2,5 @@ mod Endings
 pub mod Scripts
 pub mod SoFar
 pub mod Pieces
-mod Fronts
+mod Prefixes
 mod Runs

@@ -5,24 +5,24 @@ use Rattle.curp_runner.proofs.SoFar.{SoFar}
 
 -- nothing is written
 pub nothing : (old piece : List ℕ) → HoldsPart old old piece
-nothing old piece = record { part = []; front = record { rest = piece; is = refl }; added = sym (append-nil old) }
+nothing old piece = record { part = []; prefix = record { rest = piece; is = refl }; added = sym (append-nil old) }
 
--- of two pieces a front of the first is written
+-- of two pieces a prefix of the first is written
 pub first_of_two : (old new first second : List ℕ) → HoldsPart old new first → HoldsPart old new (first ++ second)
 first_of_two old new first second h = record {
   part = h.part;
-  front = record {
-    rest = h.front.rest ++ second;
-    is = sym (append_assoc h.part h.front.rest second) ∙ ap (λ w. w ++ second) h.front.is;
+  prefix = record {
+    rest = h.prefix.rest ++ second;
+    is = sym (append_assoc h.part h.prefix.rest second) ∙ ap (λ w. w ++ second) h.prefix.is;
   };
   added = h.added;
 }
 
--- the first is written, and a front of the second
+-- the first is written, and a prefix of the second
 pub second_of_two : (old mid new first second : List ℕ) → mid ≡ old ++ first → HoldsPart mid new second → HoldsPart old new (first ++ second)
 second_of_two old mid new first second whole h = record {
   part = first ++ h.part;
-  front = record { rest = h.front.rest; is = append_assoc first h.part h.front.rest ∙ ap (λ w. first ++ w) h.front.is };
+  prefix = record { rest = h.prefix.rest; is = append_assoc first h.part h.prefix.rest ∙ ap (λ w. first ++ w) h.prefix.is };
   added = h.added ∙ ap (λ w. w ++ h.part) whole ∙ append_assoc old first h.part;
 }
 
@@ -36,9 +36,9 @@ pub both_if_ok : {A E : Type 0} (outcome : Result A E) (old mid new first second
 both_if_ok (Ok _) old mid new first second whole more = both_of_two old mid new first second whole more
 both_if_ok (Err _) old mid new first second whole more = tt
 
--- a front of the next piece is written
-pub still_front : (text old now new piece rest : List ℕ) → SoFar text old now (piece ++ rest) → HoldsPart now new piece → HoldsPart old new text
-still_front text old now new piece rest s h =
+-- a prefix of the next piece is written
+pub still_prefix : (text old now new piece rest : List ℕ) → SoFar text old now (piece ++ rest) → HoldsPart now new piece → HoldsPart old new text
+still_prefix text old now new piece rest s h =
     subst (λ t. HoldsPart old new t) s.goes_on (second_of_two old now new s.done (piece ++ rest) s.is (first_of_two now new piece rest h))
 
 -- the next piece is written

@@ -114,7 +114,7 @@ pub record HoldsRead (text : List ℕ → List ℕ) (left_before left_after held
   pub less : line_of ahead ≡ ahead
   pub held : held_after ≡ held_before ++ text read
 
--- reading ends a run by what it read, by a read fault, or for want of memory
+-- reading ends a run by what it read, by a read fault, or out of memory
 abbrev pub IsOfReading : Status → Type 0
 IsOfReading status.Ok = ⊥
 IsOfReading (status.No clause) = ⊥
@@ -124,7 +124,7 @@ IsOfReading (status.TooLarge weight) = ⊥
 IsOfReading (status.BadRequest at) = ⊥
 IsOfReading _ = ⊤
 
--- writing ends a run by a write fault, or for want of memory
+-- writing ends a run by a write fault, or out of memory
 abbrev pub IsOfWriting : Status → Type 0
 IsOfWriting status.WriteFault = ⊤
 IsOfWriting status.NoMemory = ⊤

@@ -26,7 +26,7 @@ abbrev pub ended : Result ⊤ Status → Status
 ended (Ok _) = status.Ok
 ended (Err stop) = stop
 
--- a fault or want of memory ended the run before its script did
+-- a fault or running out of memory ended the run before its script did
 abbrev pub is_cut_short : Status → Bool
 is_cut_short status.ReadFault = true
 is_cut_short status.WriteFault = true
@@ -39,12 +39,12 @@ is_fault status.ReadFault = true
 is_fault status.WriteFault = true
 is_fault _ = false
 
--- the status of a run that a line ends. Want of memory says nothing of the line
+-- the status of a run that a line ends. Running out of memory says nothing of the line
 abbrev pub refused_at : ℕ → LineError → Status
 refused_at line NoMemory = status.NoMemory
 refused_at line reason = status.BadLine line reason
 
--- with no fault of its input and its output, it ends with the status 0, or for want of memory
+-- with no fault of its input and its output, it ends with the status 0, or out of memory
 abbrev pub EndsWhole : Status → (read_before read_after written_before written_after : ℕ) → Type 0
 EndsWhole result read_before read_after written_before written_after =
     (Rose read_before read_after → ⊥) → (Rose written_before written_after → ⊥) → (result ≡ status.Ok) ⊎ (result ≡ status.NoMemory)

@@ -48,7 +48,7 @@ pub trait Player: Drop {
         ensures opening { IfOk result (λ player. player ≡ rules.opening header.now) }
         ensures fits { IfOk result (λ player. Fits 1 player) };
 
-    /// Does what a line says, and adds its text. After want of memory a part of it may stand there.
+    /// Does what a line says, and adds its text. After running out of memory a part of it may stand there.
     fn do_line(self, number: u64, line: &Self::Line, text: &mut String) -> Result<Self, NoMemory>
         requires fits { Fits number self }
         requires counted { number ≤ step_limit }
@@ -63,7 +63,7 @@ pub trait Player: Drop {
         requires fits { Fits number self.now }
         requires counted { number ≤ step_limit + 1 }
         ensures wrote { K.tells sink.old ≡ true → OnOk result (K.held sink.new ≡ K.held sink.old ++ rules.closing self.now) }
-        ensures front { K.tells sink.old ≡ true → HoldsPart (K.held sink.old) (K.held sink.new) (rules.closing self.now) }
+        ensures prefix { K.tells sink.old ≡ true → HoldsPart (K.held sink.old) (K.held sink.new) (rules.closing self.now) }
         ensures holds { OnOk result (Holds self.now) }
         ensures writing { IfErr result IsOfWriting }
         ensures tells { K.tells sink.old ≡ true → K.tells sink.new ≡ true }
@@ -89,7 +89,7 @@ pub fn run<P: Player, S: Source, K: Sink>(
     ensures end { S.tells source.old ≡ true → OnOk result (S.left source.new ≡ []) }
     ensures wrote { S.tells source.old ≡ true → K.tells sink.old ≡ true → is_cut_short (ended result) ≡ false
         → K.held sink.new ≡ K.held sink.old ++ P.script_text (S.left source.old) }
-    ensures front { S.tells source.old ≡ true → K.tells sink.old ≡ true
+    ensures prefix { S.tells source.old ≡ true → K.tells sink.old ≡ true
         → HoldsPart (K.held sink.old) (K.held sink.new) (P.script_text (S.left source.old)) }
     ensures at_fault { S.tells source.old ≡ true → K.tells sink.old ≡ true → result ≡ Err Status.ReadFault
         → HoldsRead P.line_texts (S.left source.old) (S.left source.new) (K.held sink.old) (K.held sink.new) }
@@ -125,7 +125,7 @@ fn do_lines<P: Player, S: Source, K: Sink>(
     ensures wrote { S.tells source.old ≡ true → K.tells sink.old ≡ true → is_cut_short (ended result) ≡ false
         → K.held sink.new
         ≡ K.held sink.old ++ text_due P.rules 1 player (due P.Line.meaning script.old (S.left source.old)) }
-    ensures front { S.tells source.old ≡ true → K.tells sink.old ≡ true → HoldsPart (K.held sink.old) (K.held sink.new)
+    ensures prefix { S.tells source.old ≡ true → K.tells sink.old ≡ true → HoldsPart (K.held sink.old) (K.held sink.new)
         (text_due P.rules 1 player (due P.Line.meaning script.old (S.left source.old))) }
     ensures at_fault { S.tells source.old ≡ true → K.tells sink.old ≡ true → result ≡ Err Status.ReadFault
         → HoldsRead (line_texts_in P.Line.meaning P.rules player) (script.old.ahead ++ S.left source.old)
@@ -165,7 +165,7 @@ fn do_line<P: Player, K: Sink>(
     ensures next { IfOk result (λ next. next ≡ P.rules.next player line.now) }
     ensures wrote { K.tells sink.old ≡ true
         → OnOk result (K.held sink.new ≡ K.held sink.old ++ P.rules.text number player line.now) }
-    ensures front { K.tells sink.old ≡ true
+    ensures prefix { K.tells sink.old ≡ true
         → HoldsPart (K.held sink.old) (K.held sink.new) (P.rules.text number player line.now) }
     ensures fits { IfOk result (λ next. P.Fits (number + 1) next) }
     ensures writing { IfErr result IsOfWriting }

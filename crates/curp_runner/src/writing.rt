@@ -10,7 +10,7 @@ use curp_io::{Flushed, Sink, Written, write_piece};
 /// Writes a piece.
 pub fn write<K: Sink>(sink: &mut K, bytes: &[u8]) -> Result<(), Status>
     ensures wrote { K.tells sink.old ≡ true → OnOk result (K.held sink.new ≡ K.held sink.old ++ bytes.now) }
-    ensures front { K.tells sink.old ≡ true → HoldsPart (K.held sink.old) (K.held sink.new) bytes.now }
+    ensures prefix { K.tells sink.old ≡ true → HoldsPart (K.held sink.old) (K.held sink.new) bytes.now }
     ensures writing { IfErr result IsOfWriting }
     ensures tells { K.tells sink.old ≡ true → K.tells sink.new ≡ true }
     ensures fault { result ≡ Err Status.WriteFault → Rose (K.faults sink.old) (K.faults sink.new) }

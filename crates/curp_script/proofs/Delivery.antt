@@ -29,9 +29,9 @@ delivery digits = codes "{\"do\":\"deliver\",\"msg\":" ++ (digits ++ codes "}")
 -- what stands before the digits, and behind them
 pub is_delivery : (line rest digits : List ℕ) → bytes_eq (take 22 line) (codes "{\"do\":\"deliver\",\"msg\":") ≡ true → rest ≡ drop 22 line
     → bytes_eq (drop (length rest - 1) rest) (codes "}") ≡ true → digits ≡ take (length rest - 1) rest → line ≡ delivery digits
-is_delivery line rest digits front behind end before =
+is_delivery line rest digits prefix behind end before =
     sym (take-append-drop 22 line)
-    ∙ ap₂ (λ (a b : List ℕ). a ++ b) ((bytes_eq-Decides (take 22 line) _).0 front)
+    ∙ ap₂ (λ (a b : List ℕ). a ++ b) ((bytes_eq-Decides (take 22 line) _).0 prefix)
     (sym behind ∙ sym (take-append-drop (length rest - 1) rest) ∙ ap₂ (λ (a b : List ℕ). a ++ b) (sym before) ((bytes_eq-Decides _ (codes "}")).0 end))
 
 tokens_in : List ℕ → List Token
@@ -69,9 +69,9 @@ all_ascii (b ∷ bytes) all (suc i) = all_ascii bytes (both (nat_lt b 128) (list
 
 utf8 : (n : ℕ) → n < 2 ^ 64 → IsUtf8 (delivery (decimal n))
 utf8 n small =
-    let front = codes "{\"do\":\"deliver\",\"msg\":" in
+    let prefix = codes "{\"do\":\"deliver\",\"msg\":" in
     let end = codes "}" in
-    IsUtf8-from_ascii (delivery (decimal n)) (IsAscii-append front (decimal n ++ end) (all_ascii front refl)
+    IsUtf8-from_ascii (delivery (decimal n)) (IsAscii-append prefix (decimal n ++ end) (all_ascii prefix refl)
     (IsAscii-append (decimal n) end (IsAscii-decimal n small) (all_ascii end refl)))
 
 deliver_reads : (n : ℕ) → n < 2 ^ 64 → ReadsBack (Deliver n)

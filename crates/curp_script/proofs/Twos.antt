@@ -1,4 +1,4 @@
--- A list that is read two items at a time, into the front of a buffer.
+-- A list that is read two items at a time, into the prefix of a buffer.
 use Rattle.std.proofs.Common.{◌≡◌, ◌≤◌, ◌<◌, ◌+◌, ◌-◌, ℕ, List, [], ◌∷◌, ◌++◌, length, map, take, drop, get_or, set, Option, Some, None, option_map, option_and_then, refl, ap, append_assoc, arith}
 use Rattle.std.proofs.lemmas.Grind.{common_steps}
 use Rattle.std.proofs.lemmas.List.{take_more_set}
@@ -27,10 +27,10 @@ module _ {A B : Type 0} (f : A → A → Option B) where
   behind : (items : List A) → take (length items - 2) (drop 2 items) ≡ drop 2 items
   behind items = grind (arith, common_steps)
 
-  append_all : (front : List B) (x : B) (rest : Option (List B))
-      → option_map (λ more. front ++ more) (option_map (λ xs. x ∷ xs) rest) ≡ option_map (λ more. (front ++ x ∷ []) ++ more) rest
-  append_all front x None = refl
-  append_all front x (Some more) = simp append_assoc
+  append_all : (prefix : List B) (x : B) (rest : Option (List B))
+      → option_map (λ more. prefix ++ more) (option_map (λ xs. x ∷ xs) rest) ≡ option_map (λ more. (prefix ++ x ∷ []) ++ more) rest
+  append_all prefix x None = refl
+  append_all prefix x (Some more) = simp append_assoc
 
   -- a turn of the loop keeps what the whole is
   pub keeps : (whole : Option (List B)) (items : List A) (a b d e : A) (buffer : List B) (n : ℕ) (x : B)
@@ -40,11 +40,11 @@ module _ {A B : Type 0} (f : A → A → Option B) where
   keeps whole items a b d e buffer n x left long first second is within =
       rw (left, by_twos-pair items a b d e long first second, is, behind items, take_more_set buffer n x within) (append_all (take n buffer) x (by_twos f (drop 2 items)))
 
-  too_many : (front : List B) (most : ℕ) (x : Option B) (rest : Option (List B)) → length front ≡ most
-      → None ≡ option_and_then (at_most most) (option_map (λ more. front ++ more) (option_and_then (λ y. option_map (λ xs. y ∷ xs) rest) x))
-  too_many front most None rest is = refl
-  too_many front most (Some b) None is = refl
-  too_many front most (Some b) (Some bytes) is = grind (arith, common_steps)
+  too_many : (prefix : List B) (most : ℕ) (x : Option B) (rest : Option (List B)) → length prefix ≡ most
+      → None ≡ option_and_then (at_most most) (option_map (λ more. prefix ++ more) (option_and_then (λ y. option_map (λ xs. y ∷ xs) rest) x))
+  too_many prefix most None rest is = refl
+  too_many prefix most (Some b) None is = refl
+  too_many prefix most (Some b) (Some bytes) is = grind (arith, common_steps)
 
   -- two more than the buffer has room for
   pub full : (whole : Option (List B)) (items : List A) (a b d e : A) (buffer : List B) (n most : ℕ)

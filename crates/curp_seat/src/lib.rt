@@ -4,10 +4,10 @@
 //!   that the items, replayed from that state, give the node and all outputs, and that stamps rise (`journal`, clauses
 //!   `replay`, `stamped`). `step` is exact: one input is given to the node, and kept with what the node did and a stamp
 //!   one more than the larger of the last and the input's; what the node refuses isn't kept, nor is an input whose
-//!   stamp would pass 2^64 - 1, which is answered by 255; after want of memory it is as it was. `begun_with`
+//!   stamp would pass 2^64 - 1, which is answered by 255; after running out of memory it is as it was. `begun_with`
 //!   gives the inputs to a node anew, and answers the same journal begun with that node; it answers nothing just where
 //!   the node does otherwise by one of them.
-//! - `Running` is a `Kept` that hasn't stopped. `make` tells a `Gate` of a step before it is made, makes it as `step`
+//! - `Running` is a `Kept` that hasn't stopped. `make` tells a `Observer` of a step before it is made, makes it as `step`
 //!   does, and gives what it sent, with names.
 //! - `Chores` say what a node is ordered by its own threads, by what kind of input it took (`Took`) and what it completed.
 //! - `Framed` is a message with its name on its way between nodes, seen as that. A message that is light crosses as the
@@ -16,7 +16,7 @@
 
 mod chores;
 mod framed;
-mod gate;
+mod observer;
 mod kept;
 mod making;
 mod naming;
@@ -27,7 +27,7 @@ mod took;
 
 pub use chores::{Chores, NoChores};
 pub use framed::Framed;
-pub use gate::{Gate, OpenGate, Point};
+pub use observer::{Observer, Unobserved, Point};
 pub use kept::Kept;
 pub use naming::Sent;
 pub use running::{Made, Running};

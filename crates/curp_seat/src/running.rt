@@ -3,7 +3,7 @@ ghost use Rattle.curp_journal.specs.Journal.{last_stamp};
 ghost use Rattle.curp_journal.specs.Sending.{named_of};
 ghost use Rattle.curp_seat.specs.Making.{item_of, with_item};
 
-use crate::{Gate, Kept, Point, Sent};
+use crate::{Observer, Kept, Point, Sent};
 use curp_base::NoMemory;
 use curp_journal::Arrived;
 use curp_msg::Core;
@@ -45,9 +45,9 @@ impl<N: Core> Running<N> {
         Running { alloc, kept }
     }
 
-    /// Tells the gate of the step, and gives the node the input. Want of memory may come before the step or behind it,
+    /// Tells the observer of the step, and gives the node the input. Running out of memory may come before the step or behind it,
     /// where what it sent is copied.
-    pub fn make<G: Gate>(&mut self, gate: &G, arrived: Arrived) -> Result<Made, NoMemory>
+    pub fn make<G: Observer>(&mut self, observer: &G, arrived: Arrived) -> Result<Made, NoMemory>
         ensures added { IfOk result (λ made. made.refused ≡ 0 → self.new ≡ with_item N.machine self.old arrived) }
         ensures sent { IfOk result (λ made. made.refused ≡ 0 → made.sent.named.items
             ≡ named_of self.old.id (length self.old.items + 1) (item_of N.machine self.old arrived).stamp 1
@@ -59,7 +59,7 @@ impl<N: Core> Running<N> {
         ensures err { OnErr result ((self.new ≡ self.old) ⊎ (self.new ≡ with_item N.machine self.old arrived)) }
     {
         let count = self.kept.journal().len();
-        gate.reach(Point {
+        observer.reach(Point {
             node: self.kept.id(),
             count: count as u64 + 1,
         });

@@ -22,11 +22,11 @@ use Rattle.curp_serve.specs.declared.stepper.Stop.TheVariants as stop
 -- ---- how a command ends
 
 -- its steps are the first ones
-pub front_of : (r : Result ⊤ Stop) (new next : Served) → Ended r new next → IsPrefix new.steps next.steps
-front_of (Ok _) new next ended = subst (λ (t : Served). IsPrefix new.steps t.steps) ended.0 (prefix_self new.steps)
-front_of (Err stop.TooManySteps) new next ended = subst (λ (t : Served). IsPrefix new.steps t.steps) ended (prefix_self new.steps)
-front_of (Err (stop.TooLarge weight)) new next ended = subst (λ (t : Served). IsPrefix new.steps t.steps) ended (prefix_self new.steps)
-front_of (Err stop.NoMemory) new next ended = ended
+pub prefix_of : (r : Result ⊤ Stop) (new next : Served) → Ended r new next → IsPrefix new.steps next.steps
+prefix_of (Ok _) new next ended = subst (λ (t : Served). IsPrefix new.steps t.steps) ended.0 (prefix_self new.steps)
+prefix_of (Err stop.TooManySteps) new next ended = subst (λ (t : Served). IsPrefix new.steps t.steps) ended (prefix_self new.steps)
+prefix_of (Err (stop.TooLarge weight)) new next ended = subst (λ (t : Served). IsPrefix new.steps t.steps) ended (prefix_self new.steps)
+prefix_of (Err stop.NoMemory) new next ended = ended
 
 -- ---- what it has served
 
@@ -42,7 +42,7 @@ begun_serving f every some few s is = record {
   free = ap (λ (t : Served). t.stopped) is;
   commands = [];
   are = record { some = some; few = few; keys = tt };
-  front = subst (λ (t : Served). IsPrefix t.steps []) (sym is) (prefix_self []);
+  prefix = subst (λ (t : Served). IsPrefix t.steps []) (sym is) (prefix_self []);
   whole = λ none. is;
 }
 
@@ -95,7 +95,7 @@ limit_leaves seen same stop.NoMemory new next other ended = absurd (other refl)
 pub its_steps : (why : Stop) (new next : Served) → why ≢ stop.NoMemory → Ended (Err why) new next → new.steps ≡ next.steps
 its_steps = limit_leaves (λ (t : Served). t.steps) (λ t o. refl)
 
--- want of memory tells of no answer
+-- running out of memory tells of no answer
 pub tells_more : (told : ServeError) (a : Answer) → answer_in (Err told) ≡ Some a → told ≢ error.NoMemory
 tells_more (error.TooManySteps o) a e is = cc
 tells_more (error.TooLarge weight o) a e is = cc
@@ -128,7 +128,7 @@ module _ (pushes : Pushes) (header : Header) (every : ℕ) (s : Served) (k : Opt
     free = still;
     commands = its.commands ++ command ∷ [];
     are = more_served header.f its.commands command its.are key;
-    front = subst (λ (t : Served). IsPrefix new.steps t.steps) (behind_it its.commands (its.whole none)) (front_of r new (serve every command s) ended);
+    prefix = subst (λ (t : Served). IsPrefix new.steps t.steps) (behind_it its.commands (its.whole none)) (prefix_of r new (serve every command s) ended);
     whole = λ free. whole free ∙ behind_it its.commands (its.whole none);
   }
 

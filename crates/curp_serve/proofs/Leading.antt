@@ -62,7 +62,7 @@ longer_on made s new (Ok _) few led =
 
 -- without memory for the first step nothing has changed
 pub led_nowhere : (s next : Served) (r : Result ⊤ Stop) → r ≡ Err stop.NoMemory → IsPrefix s.steps next.steps → Led r s s next
-led_nowhere s next r is front = subst (λ (r : Result ⊤ Stop). Led r s s next) (sym is) (record { ended = front; grows = prefix_self s.steps })
+led_nowhere s next r is prefix = subst (λ (r : Result ⊤ Stop). Led r s s next) (sym is) (record { ended = prefix; grows = prefix_self s.steps })
 
 -- ---- deliveries
 

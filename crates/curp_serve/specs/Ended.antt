@@ -8,7 +8,7 @@ use Rattle.curp_law_served.specs.Served.{Limit, Served, TooLarge, TooManySteps, 
 use Rattle.curp_serve.specs.declared.stepper.Stop.{Stop}
 use Rattle.curp_serve.specs.declared.stepper.Stop.TheVariants as stop
 
--- the limit that stops them, unless it is want of memory
+-- the limit that stops them, unless it is running out of memory
 abbrev pub limit_of : Stop → Option Limit
 limit_of stop.TooManySteps = Some TooManySteps
 limit_of (stop.TooLarge weight) = Some (TooLarge weight)

@@ -68,5 +68,5 @@ pub record IsServing (header : Header) (every : ℕ) (state : Served) (stop : Op
   pub free : state.stopped ≡ None
   pub commands : List Command
   pub are : AreServed header.f commands
-  pub front : IsPrefix state.steps (after header.f every commands).steps
+  pub prefix : IsPrefix state.steps (after header.f every commands).steps
   pub whole : stop ≡ None → state ≡ after header.f every commands

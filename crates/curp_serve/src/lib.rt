@@ -2,8 +2,8 @@
 //! for: each command is invoked, and every message is delivered, in rising number, until none is left. After every
 //! sixteenth command follow a round and a collection, and after each of a given number a recovery.
 //!
-//! `Served::serve` is exact over the steps that `curp_law_served` defines: clauses `state` and `front` say which it
-//! makes, `limit` when it is refused, both ways, and `answer` what it answers, want of memory aside. There is an answer
+//! `Served::serve` is exact over the steps that `curp_law_served` defines: clauses `state` and `prefix` say which it
+//! makes, `limit` when it is refused, both ways, and `answer` what it answers, running out of memory aside. There is an answer
 //! wherever all steps were made. By the law (clauses `one_thread` and `shows`) it is that of one thread, and the steps
 //! are a script whose run shows it; `steps` gives them.
 //!

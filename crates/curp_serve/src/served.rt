@@ -118,7 +118,7 @@ impl Served {
         self.stop.is_some()
     }
 
-    /// Serves a command: it makes its steps, up to a limit. Want of memory may come behind any of them.
+    /// Serves a command: it makes its steps, up to a limit. Running out of memory may come behind any of them.
     pub fn serve(&mut self, command: Command) -> Result<Answer, ServeError>
         requires { self.old.is_spent ≡ false }
         ensures limit { result ≢ Err ServeError.NoMemory → limit_in result ≡ (next self.old command).stopped }
@@ -127,7 +127,7 @@ impl Served {
 
         // Of the steps of the command the first ones are made, behind those before them.
         ensures grows { IsPrefix self.old.state.steps self.new.state.steps }
-        ensures front { IsPrefix self.new.state.steps (next self.old command).steps }
+        ensures prefix { IsPrefix self.new.state.steps (next self.old command).steps }
         ensures spent { IsTrue self.new.is_spent ↔ IsErr result }
         ensures f { self.new.f ≡ self.old.f }
         ensures every { self.new.every ≡ self.old.every }

@@ -60,7 +60,7 @@ pub record Shows (f : ℕ) (commands : List Command) (requests : List Asked) (re
 
 -- the replies go on as those of one thread, up to a limit; with none, all of them, and all commands were served
 pub record GoesOn (f every : ℕ) (commands : List Command) (requests : List Asked) (replies : List ℕ) (whole : Session) : Type 0 where
-  pub front : IsPrefix whole.replies (replies ++ replies_behind commands requests)
+  pub prefix : IsPrefix whole.replies (replies ++ replies_behind commands requests)
   pub all : whole.served.stopped ≡ None → whole.replies ≡ replies ++ replies_behind commands requests
   pub served : whole.served.stopped ≡ None → Behind f every (commands ++ commands_in requests) whole
   pub shows : Shows f commands requests replies whole
@@ -107,7 +107,7 @@ behind_piece f every commands behind requests a replies piece whole text order m
     λ rs. append_assoc replies piece (replies_behind behind rs) ∙ ap (λ (t : List ℕ). replies ++ t) (sym (text rs)) in
     let shows = more.shows in
     record {
-      front = subst (λ (t : List ℕ). IsPrefix whole.replies t) (same requests) more.front;
+      prefix = subst (λ (t : List ℕ). IsPrefix whole.replies t) (same requests) more.prefix;
       all = λ free. more.all free ∙ same requests;
       served = λ free. subst (λ (cs : List Command). Behind f every cs whole) (sym (order requests)) (more.served free);
       shows = record {
@@ -123,8 +123,8 @@ behind_piece f every commands behind requests a replies piece whole text order m
 stopped_there : (f every : ℕ) (commands : List Command) (requests : List Asked) (replies : List ℕ) (whole : Session) (why : Limit)
     → whole.served.stopped ≡ Some why → IsPrefix whole.replies (replies ++ replies_behind commands requests)
     → Shows f commands requests replies whole → GoesOn f every commands requests replies whole
-stopped_there f every commands requests replies whole why is front shows = record {
-  front = front;
+stopped_there f every commands requests replies whole why is prefix shows = record {
+  prefix = prefix;
   all = λ free. absurd (never (sym is ∙ free));
   served = λ free. absurd (never (sym is ∙ free));
   shows = shows;
@@ -136,7 +136,7 @@ stopped_there f every commands requests replies whole why is front shows = recor
 pub goes_on : (f every : ℕ) → Serves → (requests : List Asked) → Each NamesKeys requests
     → (commands : List Command) (k : Session) → Behind f every commands k → GoesOn f every commands requests k.replies (reads_all every requests k)
 goes_on f every serves [] names commands k b = record {
-  front = subst (λ (t : List ℕ). IsPrefix k.replies t) (sym (append-nil k.replies)) (prefix_self k.replies);
+  prefix = subst (λ (t : List ℕ). IsPrefix k.replies t) (sym (append-nil k.replies)) (prefix_self k.replies);
   all = λ free. sym (append-nil k.replies);
   served = λ free. subst (λ (cs : List Command). Behind f every cs k) (sym (append-nil commands)) b;
   shows = none_more f every serves commands [] k k b refl refl;
@@ -188,8 +188,8 @@ goes_on f every serves (asked.Command command ∷ requests) names commands k b =
               ∙ ap (λ (x : Answer). k.replies ++ (reply_of x ++ replies_behind (commands ++ command ∷ []) requests)) same;
         }
 
-    front : IsPrefix next.replies (k.replies ++ replies_behind commands its)
-    front =
+    prefix : IsPrefix next.replies (k.replies ++ replies_behind commands its)
+    prefix =
         subst (λ (o : Option Answer). IsPrefix (k.replies ++ reply_to o) (k.replies ++ replies_behind commands its)) (sym (ap (λ (s : Served). s.answer) state_is))
         (first state.answer refl)
 
@@ -227,7 +227,7 @@ goes_on f every serves (asked.Command command ∷ requests) names commands k b =
         }
 
     limited : More → (o : Option Limit) → next.served.stopped ≡ o → GoesOn f every commands its k.replies (unless_stopped o next (reads_all every requests))
-    limited more (Some why) is = stopped_there f every commands its k.replies next why is front (shown state.answer refl)
+    limited more (Some why) is = stopped_there f every commands its k.replies next why is prefix (shown state.answer refl)
     limited more None is =
         let still : state.stopped ≡ None = ap (λ (s : Served). s.stopped) (sym state_is) ∙ is in
         let given = serves.completes f every commands command b.are names.0 free still in

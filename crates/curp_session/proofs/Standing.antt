@@ -16,7 +16,7 @@ use Rattle.curp_resp.specs.Next.{GivesRequest, RefusesBytes}
 use Rattle.curp_resp.specs.Reply.{protocol_error}
 use Rattle.curp_resp.specs.declared.asked.Asked.{Asked}
 use Rattle.curp_resp.specs.declared.asked.Asked.TheVariants as asked
-use Rattle.curp_resp.proofs.Fronts.{one_place, one_stands_first, request_some}
+use Rattle.curp_resp.proofs.Prefixes.{one_place, one_stands_first, request_some}
 use Rattle.curp_session.specs.Answering.{Aim, AreReadBack, Finishes, IsSession, aim_of, ended_by, if_replies, so_far}
 use Rattle.curp_session.specs.Session.{EndsSession, Session, answered_by, fresh, most_requests, reads, reads_all, status_of_limit, text_by, unless_stopped}
 use Rattle.curp_words.specs.declared.task.RespOutput.TheVariants as output
@@ -30,7 +30,7 @@ pub ends_with : {A : Type 0} (r : Result A Status) (e : Status) → IsErrAnd r (
 ends_with (Ok _) e h = absurd h
 ends_with (Err s) e h = ap Err h
 
--- a write fault and want of memory cut it short
+-- a write fault and running out of memory cut it short
 pub cut_by_writing : (e : Status) → IsOfWriting e → is_cut_short e ≡ true
 cut_by_writing status.WriteFault h = refl
 cut_by_writing status.NoMemory h = refl
@@ -171,7 +171,7 @@ pub finishes_there : (aim : Aim) (tells : Bool) (held new : List ℕ) (old : Ser
     → (tells ≡ true → is_cut_short stop ≡ false → held ≡ aim.before ++ so_far aim.output aim.f h.now → new ≡ aim.before ++ so_far aim.output aim.f next)
     → (tells ≡ true → held ≡ aim.before ++ so_far aim.output aim.f h.now → HoldsPart aim.before new (so_far aim.output aim.f next))
     → Finishes aim tells new stop
-finishes_there aim tells held new old count bytes rest passed then given stop h g limit printable wrote front =
+finishes_there aim tells held new old count bytes rest passed then given stop h g limit printable wrote prefix =
     let next = reads aim.every given h.now in
     let d = next_due aim h.now h.due bytes rest passed then given h.decomposes h.leads g in
     let whole : (o : Option Limit) → next.served.stopped ≡ o → unless_stopped o next (reads_all aim.every (map meaning d.more)) ≡ aim.whole =
@@ -189,8 +189,8 @@ finishes_there aim tells held new old count bytes rest passed then given stop h 
           wrote told still (h.wrote told)
           ∙ ap (λ (t : List ℕ). aim.before ++ t) (sym (text_stopped aim.output aim.f next aim.rest met.0 met.1))
           ∙ ap (λ (k : Session). aim.before ++ text k) same;
-      front = λ told.
-          part_of_more aim.before new (so_far aim.output aim.f next) (text aim.whole) (front told (h.wrote told))
+      prefix = λ told.
+          part_of_more aim.before new (so_far aim.output aim.f next) (text aim.whole) (prefix told (h.wrote told))
           (prefix_trans (subst (λ (k : Session). IsPrefix (so_far aim.output aim.f next) (so_far aim.output aim.f k)) d.leads (on next d.more next.served.stopped))
           (text_grows aim.output aim.f aim.whole aim.rest));
       printable = λ script still.
@@ -209,7 +209,7 @@ pub finishes_cut : (aim : Aim) (tells : Bool) (held : List ℕ) (old : Served) (
 finishes_cut aim tells held old count bytes passed stop h cut = record {
   ends = λ still. both (is_cut_short stop) cut still;
   wrote = λ told still. both (is_cut_short stop) cut still;
-  front = λ told.
+  prefix = λ told.
       part_held aim.before held (so_far aim.output aim.f h.now) (text_by aim.output aim.f aim.whole aim.rest) (h.wrote told)
       (prefix_trans (subst (λ (k : Session). IsPrefix (so_far aim.output aim.f h.now) (so_far aim.output aim.f k)) h.leads
       (all_grow aim.output aim.f aim.every (map meaning h.due) h.now)) (text_grows aim.output aim.f aim.whole aim.rest));
@@ -228,7 +228,7 @@ finishes_end aim tells held old count bytes passed h none =
           (record { ok = λ e. refl; bad = λ place broken. absurd (broken.some rest) });
       wrote = λ told still. h.wrote told ∙ ap (λ (k : Session). aim.before ++ so_far aim.output aim.f k) last.1
           ∙ ap (λ (t : List ℕ). aim.before ++ t) (sym (text_ended aim.output aim.f aim.whole aim.rest free rest));
-      front = λ told. part_held aim.before held (so_far aim.output aim.f aim.whole) (text_by aim.output aim.f aim.whole aim.rest)
+      prefix = λ told. part_held aim.before held (so_far aim.output aim.f aim.whole) (text_by aim.output aim.f aim.whole aim.rest)
           (h.wrote told ∙ ap (λ (k : Session). aim.before ++ so_far aim.output aim.f k) last.1) (text_grows aim.output aim.f aim.whole aim.rest);
       printable = λ script still. subst (λ (s : Served). AreReadBack s.steps) (sym h.at.served ∙ ap (λ (k : Session). k.served) last.1) (h.printable script);
     }
@@ -269,7 +269,7 @@ finishes_broken aim tells held new old count bytes rest passed at h r more =
       ends = λ still. subst (λ (o : Option Limit). EndsSession o (aim.size - length aim.rest) aim.rest (status.BadRequest at)) (sym b.free)
           (record { ok = λ none. absurd (b.some none); bad = λ place breaks. ap status.BadRequest (b.place place breaks) });
       wrote = λ told still. wrote told;
-      front = λ told. part_held aim.before new (text_by aim.output aim.f aim.whole aim.rest) (text_by aim.output aim.f aim.whole aim.rest) (wrote told)
+      prefix = λ told. part_held aim.before new (text_by aim.output aim.f aim.whole aim.rest) (text_by aim.output aim.f aim.whole aim.rest) (wrote told)
           (prefix_self (text_by aim.output aim.f aim.whole aim.rest));
       printable = λ script still. b.printable script;
     }
@@ -283,7 +283,7 @@ broken_cut aim tells held new old count bytes rest passed at stop h r cut more =
     record {
       ends = λ still. both (is_cut_short stop) cut still;
       wrote = λ told still. both (is_cut_short stop) cut still;
-      front = λ told. subst (λ (t : List ℕ). HoldsPart aim.before new t) (sym (text_broken aim.output aim.f aim.whole aim.rest b.free b.some))
+      prefix = λ told. subst (λ (t : List ℕ). HoldsPart aim.before new t) (sym (text_broken aim.output aim.f aim.whole aim.rest b.free b.some))
           (part_behind aim.before held new (so_far aim.output aim.f aim.whole) (if_replies aim.output protocol_error) (b.wrote told) (more told));
       printable = λ script still. both (is_cut_short stop) cut still;
     }
@@ -306,16 +306,16 @@ stands_at_first plan requests rest input before held tells d wrote = record {
   wrote = wrote;
 }
 
--- a front of what comes first was written
+-- a prefix of what comes first was written
 pub finishes_unopened : (plan : RespPlan) (requests : List (List (List ℕ))) (rest input before new : List ℕ) (tells : Bool) (stop : Status) → is_cut_short stop ≡ true
     → (tells ≡ true → HoldsPart before new (so_far plan.output plan.f (fresh plan.f)))
     → Finishes (aim_of plan requests rest input before) tells new stop
-finishes_unopened plan requests rest input before new tells stop cut front = record {
+finishes_unopened plan requests rest input before new tells stop cut prefix = record {
   ends = λ still. both (is_cut_short stop) cut still;
   wrote = λ told still. both (is_cut_short stop) cut still;
-  front = λ told.
+  prefix = λ told.
       let whole = reads_all plan.every (map meaning requests) (fresh plan.f) in
-      part_of_more before new (so_far plan.output plan.f (fresh plan.f)) (text_by plan.output plan.f whole rest) (front told)
+      part_of_more before new (so_far plan.output plan.f (fresh plan.f)) (text_by plan.output plan.f whole rest) (prefix told)
       (prefix_trans (all_grow plan.output plan.f plan.every (map meaning requests) (fresh plan.f)) (text_grows plan.output plan.f whole rest));
   printable = λ script still. both (is_cut_short stop) cut still;
 }

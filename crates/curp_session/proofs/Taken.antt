@@ -5,7 +5,7 @@ use Rattle.curp_law_served.specs.Served.{Limit, Served, begun}
 use Rattle.curp_resp.specs.Input.{Decomposes, NoneStandsFirst, StandsFirst}
 use Rattle.curp_resp.specs.Language.{IsRequest}
 use Rattle.curp_resp.specs.Meaning.{meaning}
-use Rattle.curp_resp.specs.Next.{GivesRequest, LosesFront}
+use Rattle.curp_resp.specs.Next.{GivesRequest, LosesPrefix}
 use Rattle.curp_resp.specs.declared.asked.Asked.{Asked}
 use Rattle.curp_session.specs.Answering.{HasAnswered, ended_by, so_far}
 use Rattle.curp_session.specs.Session.{HoldsAnswers, Session, fresh, most_requests, reads, reads_all, session, unless_stopped}
@@ -109,7 +109,7 @@ answered_more plan input before held new old state count bytes rest passed then 
 
 -- the source failed, and what was taken behind the requests is lost
 pub answered_lost : (plan : RespPlan) (input before held new : List ℕ) (state : Served) (count : ℕ) (bytes ahead left : List ℕ)
-    → HasAnswered plan input before held state count bytes → LosesFront bytes (ahead ++ left) → ahead ≡ [] → new ≡ held
+    → HasAnswered plan input before held state count bytes → LosesPrefix bytes (ahead ++ left) → ahead ≡ [] → new ≡ held
     → HoldsAnswers plan input left before new
 answered_lost plan input before held new state count bytes ahead left h lost none same = record {
   taken = h.read ++ lost.lost;
@@ -118,7 +118,7 @@ answered_lost plan input before held new state count bytes ahead left h lost non
   is = sym h.left ∙ ap (λ (b : List ℕ). h.read ++ b) (sym lost.left ∙ ap (λ (b : List ℕ). lost.lost ++ (b ++ left)) none)
       ∙ sym (append_assoc h.read lost.lost left);
   decomposes = rest_behind h.requests h.read lost.lost h.decomposes lost.none;
-  begins = lost.front;
+  begins = lost.prefix;
   held = same ∙ h.wrote
       ∙ ap (λ (t : List ℕ). before ++ t) (sym (text_ended plan.output plan.f (session plan h.requests) [] h.at.free refl));
 }

@@ -34,9 +34,9 @@ drop_length : {A : Type 0} (xs ys : List A) → drop (length xs) (xs ++ ys) ≡ 
 drop_length [] ys = refl
 drop_length (x ∷ xs) ys = drop_length xs ys
 
--- what a list has behind a front of it
-pub behind_front : {A : Type 0} (xs ys : List A) → IsPrefix xs ys → ys ≡ xs ++ drop (length xs) ys
-behind_front {A} xs ys p = sym p.is ∙ ap (λ (t : List A). xs ++ t) (sym (drop_length xs p.rest) ∙ ap (λ (t : List A). drop (length xs) t) p.is)
+-- what a list has behind a prefix of it
+pub behind_prefix : {A : Type 0} (xs ys : List A) → IsPrefix xs ys → ys ≡ xs ++ drop (length xs) ys
+behind_prefix {A} xs ys p = sym p.is ∙ ap (λ (t : List A). xs ++ t) (sym (drop_length xs p.rest) ∙ ap (λ (t : List A). drop (length xs) t) p.is)
 
 -- the header's line, where a script is written
 pub opening_text : (o : RespOutput) (f : ℕ) (h : Header) (line : List ℕ) → o ≡ output.Script → h ≡ header_of f → line ≡ compact_text (header_data h)
@@ -75,7 +75,7 @@ so_far_command output.Script f every command k =
     let old = k.served.steps in
     let new = (serve every command k.served).steps in
     let line = header_line (header_of f) in
-    ap (λ (xs : List Step). line ++ lines_text xs) (behind_front old new (serve_grows every command k.served))
+    ap (λ (xs : List Step). line ++ lines_text xs) (behind_prefix old new (serve_grows every command k.served))
     ∙ ap (λ (t : List ℕ). line ++ t) (lines_append old (drop (length old) new))
     ∙ sym (append_assoc line (lines_text old) (lines_text (drop (length old) new)))
 
@@ -149,13 +149,13 @@ text_grows output.Script f k rest = prefix_self (script_lines (header_of f) k.se
 -- ---- what was written of it
 
 pub part_of_more : (old new text more : List ℕ) → HoldsPart old new text → IsPrefix text more → HoldsPart old new more
-part_of_more old new text more h p = record { part = h.part; front = prefix_trans h.front p; added = h.added }
+part_of_more old new text more h p = record { part = h.part; prefix = prefix_trans h.prefix p; added = h.added }
 
--- a front of one piece more
+-- a prefix of one piece more
 pub part_behind : (before old new text piece : List ℕ) → old ≡ before ++ text → HoldsPart old new piece → HoldsPart before new (text ++ piece)
 part_behind before old new text piece is h = record {
   part = text ++ h.part;
-  front = record { rest = h.front.rest; is = append_assoc text h.part h.front.rest ∙ ap (λ (t : List ℕ). text ++ t) h.front.is };
+  prefix = record { rest = h.prefix.rest; is = append_assoc text h.part h.prefix.rest ∙ ap (λ (t : List ℕ). text ++ t) h.prefix.is };
   added = h.added ∙ ap (λ (t : List ℕ). t ++ h.part) is ∙ append_assoc before text h.part;
 }
 
@@ -165,12 +165,12 @@ whole_behind before old new text piece is more = more ∙ ap (λ (t : List ℕ).
 
 -- none of it
 pub part_held : (before held text more : List ℕ) → held ≡ before ++ text → IsPrefix text more → HoldsPart before held more
-part_held before held text more is p = record { part = text; front = p; added = is }
+part_held before held text more is p = record { part = text; prefix = p; added = is }
 
 -- ---- steps in range
 
 pub in_range_whole : (n : ℕ) (xs : List Step) → Each StepInRange (take n xs) → Each StepInRange (drop n xs) → Each StepInRange xs
-in_range_whole n xs front rest = subst (λ (t : List Step). Each StepInRange t) (halves n xs) (Each-append StepInRange (take n xs) (drop n xs) front rest)
+in_range_whole n xs prefix rest = subst (λ (t : List Step). Each StepInRange t) (halves n xs) (Each-append StepInRange (take n xs) (drop n xs) prefix rest)
   where
     halves : (n : ℕ) (xs : List Step) → take n xs ++ drop n xs ≡ xs
     halves zero xs = refl
@@ -188,9 +188,9 @@ no_line_left xs k all = ap lines_text (drop_all k xs all)
 
 pub next_in_range : (xs : List Step) (k : ℕ) (s : Step) → k < length xs → s ≡ get_or xs k s → Each StepInRange (take k xs) → StepInRange s
     → Each StepInRange (take (k + 1) xs)
-next_in_range xs k s within here front next =
+next_in_range xs k s within here prefix next =
     let more : take (k + 1) xs ≡ take k xs ++ s ∷ [] = take_more xs k s within ∙ ap (λ (z : Step). take k xs ++ z ∷ []) (sym here) in
-    subst (λ (zs : List Step). Each StepInRange zs) (sym more) (Each-append StepInRange (take k xs) (s ∷ []) front (next, tt))
+    subst (λ (zs : List Step). Each StepInRange zs) (sym more) (Each-append StepInRange (take k xs) (s ∷ []) prefix (next, tt))
 
 -- ---- a request that means no command, as the program has it
 

@@ -49,7 +49,7 @@ abbrev pub ended_by : Option Limit → Result ⊤ Status
 ended_by None = Ok tt
 ended_by (Some limit) = Err (status_of_limit limit)
 
--- an error of it is a limit, a write fault, or want of memory
+-- an error of it is a limit, a write fault, or running out of memory
 abbrev pub IsOfAnswering : Status → Type 0
 IsOfAnswering status.TooManySteps = ⊤
 IsOfAnswering (status.TooLarge weight) = ⊤
@@ -118,7 +118,7 @@ pub record Finishes (aim : Aim) (tells : Bool) (held : List ℕ) (result : Statu
       → EndsSession aim.whole.served.stopped (aim.size - length aim.rest) aim.rest result
   pub wrote : tells ≡ true → is_cut_short result ≡ false
       → held ≡ aim.before ++ text_by aim.output aim.f aim.whole aim.rest
-  pub front : tells ≡ true → HoldsPart aim.before held (text_by aim.output aim.f aim.whole aim.rest)
+  pub prefix : tells ≡ true → HoldsPart aim.before held (text_by aim.output aim.f aim.whole aim.rest)
   pub printable : aim.output ≡ output.Script → is_cut_short result ≡ false → AreReadBack aim.whole.served.steps
 
 -- the next request was answered, or there was none, or it ended there

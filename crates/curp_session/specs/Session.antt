@@ -8,7 +8,7 @@ use Rattle.curp_model.specs.World.{world}
 use Rattle.curp_runner.specs.declared.status.Status.{Status}
 use Rattle.curp_runner.specs.declared.status.Status.TheVariants as status
 use Rattle.curp_resp.specs.Input.{BreaksOff, Decomposes, place_behind}
-use Rattle.curp_resp.specs.Language.{IsFront}
+use Rattle.curp_resp.specs.Language.{IsViablePrefix}
 use Rattle.curp_resp.specs.Meaning.{meaning}
 use Rattle.curp_resp.specs.Reply.{other_of, protocol_error, reply_of}
 use Rattle.curp_resp.specs.declared.asked.Asked.{Asked}
@@ -114,7 +114,7 @@ pub record HoldsAnswers (plan : RespPlan) (left_before left_after held_before he
   pub rest : List ℕ
   pub is : left_before ≡ taken ++ left_after
   pub decomposes : Decomposes requests taken rest
-  pub begins : IsFront rest
+  pub begins : IsViablePrefix rest
   pub held : held_after ≡ held_before ++ session_text plan requests []
 
 -- ---- one thread

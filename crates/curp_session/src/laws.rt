@@ -10,8 +10,8 @@ ghost use Rattle.curp_words.specs.declared.task.RespPlan.{RespPlan};
 
 /// A session replies as one thread, and the run of its steps completes each command before the next, with that answer.
 pub fn sessions_are_of_one_thread()
-    // The replies are those of one thread to the same requests: all of them, or a front where a limit is met.
-    ensures front { (plan : RespPlan) (requests : List (List (List ℕ))) → IsRespPlan plan
+    // The replies are those of one thread to the same requests: all of them, or a prefix where a limit is met.
+    ensures prefix { (plan : RespPlan) (requests : List (List (List ℕ))) → IsRespPlan plan
         → IsPrefix (session plan requests).replies (replies_of_one_thread requests) }
     ensures to_the_end { (plan : RespPlan) (requests : List (List (List ℕ))) → IsRespPlan plan
         → (session plan requests).served.stopped ≡ None

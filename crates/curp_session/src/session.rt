@@ -46,16 +46,16 @@ pub fn answer_requests<S: Source, K: Sink>(
     sink: &mut K,
 ) -> Status
     requires { IsRespPlan plan.now }
-    // It ends by the first limit that is met, or as the input does, unless a fault or want of memory cuts it short.
+    // It ends by the first limit that is met, or as the input does, unless a fault or running out of memory cuts it short.
     ensures ends { (requests : List (List (List ℕ))) (rest : List ℕ) → S.tells source.old ≡ true
         → Decomposes requests (S.left source.old) rest → is_cut_short result ≡ false
         → EndsSession (session plan.now requests).served.stopped (length
         (S.left source.old) - length rest) rest result }
-    // It writes the text of the session; where it is cut short, a front of it.
+    // It writes the text of the session; where it is cut short, a prefix of it.
     ensures wrote { (requests : List (List (List ℕ))) (rest : List ℕ) → S.tells source.old ≡ true
         → K.tells sink.old ≡ true → Decomposes requests (S.left source.old) rest → is_cut_short result ≡ false
         → K.held sink.new ≡ K.held sink.old ++ session_text plan.now requests rest }
-    ensures front { (requests : List (List (List ℕ))) (rest : List ℕ) → S.tells source.old ≡ true
+    ensures prefix { (requests : List (List (List ℕ))) (rest : List ℕ) → S.tells source.old ≡ true
         → K.tells sink.old ≡ true → Decomposes requests (S.left source.old) rest
         → HoldsPart (K.held sink.old) (K.held sink.new) (session_text plan.now requests rest) }
     ensures flushed { is_cut_short result ≡ false → K.flushed sink.new ≡ true }
@@ -278,7 +278,7 @@ fn answer<K: Sink>(
     ensures wrote { (k : Session) (before : List ℕ) → K.tells sink.old ≡ true → IsAt k served.old.state count
         → K.held sink.old ≡ before ++ so_far output served.old.f k → is_cut_short (ended result) ≡ false
         → K.held sink.new ≡ before ++ so_far output served.old.f (reads served.old.every asked k) }
-    ensures front { (k : Session) (before : List ℕ) → K.tells sink.old ≡ true → IsAt k served.old.state count
+    ensures prefix { (k : Session) (before : List ℕ) → K.tells sink.old ≡ true → IsAt k served.old.state count
         → K.held sink.old ≡ before ++ so_far output served.old.f k
         → HoldsPart before (K.held sink.new) (so_far output served.old.f (reads served.old.every asked k)) }
     ensures printable { (k : Session) → IsAt k served.old.state count → output ≡ RespOutput.Script
@@ -317,7 +317,7 @@ fn answer_command<K: Sink>(
         → K.held sink.old ≡ before ++ so_far output served.old.f k → is_cut_short (ended result) ≡ false
         → K.held sink.new ≡ before ++ so_far output served.old.f (answered_by served.old.every
         (Asked.Command command) k) }
-    ensures front { (k : Session) (before : List ℕ) → K.tells sink.old ≡ true → k.served ≡ served.old.state
+    ensures prefix { (k : Session) (before : List ℕ) → K.tells sink.old ≡ true → k.served ≡ served.old.state
         → K.held sink.old ≡ before ++ so_far output served.old.f k
         → HoldsPart before (K.held sink.new)
         (so_far output served.old.f (answered_by served.old.every (Asked.Command command) k)) }
@@ -345,7 +345,7 @@ struct Ended {
 }
 
 impl Ended {
-    // Want of memory is an error.
+    // Running out of memory is an error.
     fn of(served: Result<Answer, ServeError>) -> Result<Ended, Status>
         ensures answer { IfOk result (λ ended. ended.answer ≡ answer_in served) }
         ensures made { IfOk result (λ ended. served ≢ Err ServeError.NoMemory) }
@@ -380,7 +380,7 @@ fn write_opening<K: Sink>(
     requires { IsHeader (header_of served.now.f) }
     ensures wrote { K.tells sink.old ≡ true → OnOk result (K.held sink.new ≡ K.held sink.old
         ++ so_far output served.now.f (fresh served.now.f)) }
-    ensures front { K.tells sink.old ≡ true → HoldsPart (K.held sink.old) (K.held sink.new)
+    ensures prefix { K.tells sink.old ≡ true → HoldsPart (K.held sink.old) (K.held sink.new)
         (so_far output served.now.f (fresh served.now.f)) }
     ensures writing { IfErr result IsOfWriting }
     ensures tells { K.tells sink.old ≡ true → K.tells sink.new ≡ true }
@@ -396,7 +396,7 @@ fn write_opening<K: Sink>(
 // Writes the reply to an answer, if there is one.
 fn write_reply<K: Sink>(alloc: Global, answer: Option<Answer>, sink: &mut K) -> Result<(), Status>
     ensures wrote { K.tells sink.old ≡ true → OnOk result (K.held sink.new ≡ K.held sink.old ++ reply_to answer) }
-    ensures front { K.tells sink.old ≡ true → HoldsPart (K.held sink.old) (K.held sink.new) (reply_to answer) }
+    ensures prefix { K.tells sink.old ≡ true → HoldsPart (K.held sink.old) (K.held sink.new) (reply_to answer) }
     ensures writing { IfErr result IsOfWriting }
     ensures tells { K.tells sink.old ≡ true → K.tells sink.new ≡ true }
     ensures fault { result ≡ Err Status.WriteFault → Rose (K.faults sink.old) (K.faults sink.new) }
@@ -417,7 +417,7 @@ fn write_other<K: Sink>(
 ) -> Result<(), Status>
     ensures wrote { K.tells sink.old ≡ true → OnOk result (K.held sink.new ≡ K.held sink.old
         ++ if_replies output (other_of other.now)) }
-    ensures front { K.tells sink.old ≡ true → HoldsPart (K.held sink.old) (K.held sink.new) (if_replies output
+    ensures prefix { K.tells sink.old ≡ true → HoldsPart (K.held sink.old) (K.held sink.new) (if_replies output
         (other_of other.now)) }
     ensures writing { IfErr result IsOfWriting }
     ensures tells { K.tells sink.old ≡ true → K.tells sink.new ≡ true }
@@ -434,7 +434,7 @@ fn write_other<K: Sink>(
 fn write_protocol<K: Sink>(output: RespOutput, sink: &mut K) -> Result<(), Status>
     ensures wrote { K.tells sink.old ≡ true → OnOk result (K.held sink.new ≡ K.held sink.old
         ++ if_replies output protocol_error) }
-    ensures front { K.tells sink.old ≡ true → HoldsPart (K.held sink.old) (K.held sink.new)
+    ensures prefix { K.tells sink.old ≡ true → HoldsPart (K.held sink.old) (K.held sink.new)
         (if_replies output protocol_error) }
     ensures writing { IfErr result IsOfWriting }
     ensures tells { K.tells sink.old ≡ true → K.tells sink.new ≡ true }
@@ -459,7 +459,7 @@ fn write_due<K: Sink>(
     requires { before ≤ length served.now.state.steps }
     ensures wrote { K.tells sink.old ≡ true → OnOk result (K.held sink.new ≡ K.held sink.old
         ++ due_of output answer (drop before served.now.state.steps)) }
-    ensures front { K.tells sink.old ≡ true → HoldsPart (K.held sink.old) (K.held sink.new) (due_of output answer
+    ensures prefix { K.tells sink.old ≡ true → HoldsPart (K.held sink.old) (K.held sink.new) (due_of output answer
         (drop before served.now.state.steps)) }
     ensures writing { IfErr result IsOfWriting }
     ensures tells { K.tells sink.old ≡ true → K.tells sink.new ≡ true }
@@ -484,7 +484,7 @@ fn write_steps<K: Sink>(
     requires { before ≤ length served.now.state.steps }
     ensures wrote { K.tells sink.old ≡ true → OnOk result (K.held sink.new ≡ K.held sink.old
         ++ lines_text (drop before served.now.state.steps)) }
-    ensures front { K.tells sink.old ≡ true → HoldsPart (K.held sink.old) (K.held sink.new) (lines_text
+    ensures prefix { K.tells sink.old ≡ true → HoldsPart (K.held sink.old) (K.held sink.new) (lines_text
         (drop before served.now.state.steps)) }
     ensures writing { IfErr result IsOfWriting }
     ensures tells { K.tells sink.old ≡ true → K.tells sink.new ≡ true }
@@ -502,7 +502,7 @@ fn write_steps<K: Sink>(
 fn write_lines<K: Sink>(alloc: Global, steps: &[Step], sink: &mut K) -> Result<(), Status>
     requires { Each NamesNode steps.now }
     ensures wrote { K.tells sink.old ≡ true → OnOk result (K.held sink.new ≡ K.held sink.old ++ lines_text steps.now) }
-    ensures front { K.tells sink.old ≡ true → HoldsPart (K.held sink.old) (K.held sink.new) (lines_text steps.now) }
+    ensures prefix { K.tells sink.old ≡ true → HoldsPart (K.held sink.old) (K.held sink.new) (lines_text steps.now) }
     ensures writing { IfErr result IsOfWriting }
     ensures tells { K.tells sink.old ≡ true → K.tells sink.new ≡ true }
     ensures fault { result ≡ Err Status.WriteFault → Rose (K.faults sink.old) (K.faults sink.new) }
@@ -519,7 +519,7 @@ fn write_lines<K: Sink>(alloc: Global, steps: &[Step], sink: &mut K) -> Result<(
 // Writes a line, with a line feed.
 fn write_line<K: Sink>(mut line: Vec<u8>, sink: &mut K) -> Result<(), Status>
     ensures wrote { K.tells sink.old ≡ true → OnOk result (K.held sink.new ≡ K.held sink.old ++ line_text line.items) }
-    ensures front { K.tells sink.old ≡ true → HoldsPart (K.held sink.old) (K.held sink.new) (line_text line.items) }
+    ensures prefix { K.tells sink.old ≡ true → HoldsPart (K.held sink.old) (K.held sink.new) (line_text line.items) }
     ensures writing { IfErr result IsOfWriting }
     ensures tells { K.tells sink.old ≡ true → K.tells sink.new ≡ true }
     ensures fault { result ≡ Err Status.WriteFault → Rose (K.faults sink.old) (K.faults sink.new) }

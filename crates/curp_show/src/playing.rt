@@ -16,7 +16,7 @@ pub fn write_played<K: Sink>(alloc: Global, text: &[u8], sink: &mut K) -> Status
     requires { (script_in text.now).body.ending ≡ Whole }
     ensures wrote { K.tells sink.old ≡ true → result ≡ Status.Ok
         → K.held sink.new ≡ K.held sink.old ++ played text.now }
-    ensures front { K.tells sink.old ≡ true → HoldsPart (K.held sink.old) (K.held sink.new) (played text.now) }
+    ensures prefix { K.tells sink.old ≡ true → HoldsPart (K.held sink.old) (K.held sink.new) (played text.now) }
     ensures order { result ≡ Status.Ok → HasAnOrder (script_in text.now) }
     ensures flushed { result ≡ Status.Ok → K.flushed sink.new ≡ true }
     ensures of_making { IsOfMaking result }
@@ -34,7 +34,7 @@ pub fn write_played<K: Sink>(alloc: Global, text: &[u8], sink: &mut K) -> Status
 fn write_script<K: Sink>(text: &[u8], sink: &mut K) -> Result<(), Status>
     ensures wrote { K.tells sink.old ≡ true
         → OnOk result (K.held sink.new ≡ K.held sink.old ++ (text.now ++ 10 ∷ [])) }
-    ensures front { K.tells sink.old ≡ true → HoldsPart (K.held sink.old) (K.held sink.new) (text.now ++ 10 ∷ []) }
+    ensures prefix { K.tells sink.old ≡ true → HoldsPart (K.held sink.old) (K.held sink.new) (text.now ++ 10 ∷ []) }
     ensures writing { IfErr result IsOfWriting }
     ensures tells { K.tells sink.old ≡ true → K.tells sink.new ≡ true }
     ensures fault { result ≡ Err Status.WriteFault → Rose (K.faults sink.old) (K.faults sink.new) }
@@ -49,7 +49,7 @@ fn play_text<K: Sink>(alloc: Global, text: &[u8], sink: &mut K) -> Status
     requires { (script_in text.now).body.ending ≡ Whole }
     ensures wrote { K.tells sink.old ≡ true → result ≡ Status.Ok
         → K.held sink.new ≡ K.held sink.old ++ text_of (script_in text.now) }
-    ensures front { K.tells sink.old ≡ true
+    ensures prefix { K.tells sink.old ≡ true
         → HoldsPart (K.held sink.old) (K.held sink.new) (text_of (script_in text.now)) }
     ensures order { result ≡ Status.Ok → HasAnOrder (script_in text.now) }
     ensures flushed { result ≡ Status.Ok → K.flushed sink.new ≡ true }

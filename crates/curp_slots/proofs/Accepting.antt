@@ -144,10 +144,10 @@ total_most (ss ∷ sets) ways most =
 -- ---- a request in its place among others
 
 pub record IsPut (r : Request) (requests all : List Request) : Type 0 where
-  pub front : List Request
+  pub prefix : List Request
   pub back : List Request
-  pub before : front ++ back ≡ requests
-  pub after : front ++ r ∷ back ≡ all
+  pub before : prefix ++ back ≡ requests
+  pub after : prefix ++ r ∷ back ≡ all
 
 abbrev pub Absent : HeldRequest → List HeldRequest → Type 0
 Absent x held = Each (λ (y : HeldRequest). id_cmp x.request.id y.request.id ≢ Equal) held
@@ -168,32 +168,32 @@ absent_each x (y ∷ held) none = go (same_id x.request.id y.request.id) refl no
     )
 
 pub put_among : (x : HeldRequest) (held : List HeldRequest) → Absent x held → IsPut x.request (requests_of held) (requests_of (placed x held))
-put_among x [] a = record { front = []; back = []; before = refl; after = refl }
+put_among x [] a = record { prefix = []; back = []; before = refl; after = refl }
 put_among x (y ∷ held) a =
     let p = go (id_cmp x.request.id y.request.id) a.0 (put_among x held a.1) in
-    record { front = p.0; back = p.1; before = p.2; after = p.3 }
+    record { prefix = p.0; back = p.1; before = p.2; after = p.3 }
   where
     go : (r : Ordering) → r ≢ Equal → IsPut x.request (requests_of held) (requests_of (placed x held))
-        → (front : List Request) × (back : List Request) × (front ++ back ≡ requests_of (y ∷ held)) × (front ++ x.request ∷ back ≡ requests_of (by_order r (x ∷ y ∷ held) (x ∷ held) (y ∷ placed x held)))
+        → (prefix : List Request) × (back : List Request) × (prefix ++ back ≡ requests_of (y ∷ held)) × (prefix ++ x.request ∷ back ≡ requests_of (by_order r (x ∷ y ∷ held) (x ∷ held) (y ∷ placed x held)))
     go Less other rest = ([], requests_of (y ∷ held), refl, refl)
     go Equal other rest = absurd (other refl)
-    go Greater other rest = (y.request ∷ rest.front, rest.back, ap (λ (rs : List Request). y.request ∷ rs) rest.before, ap (λ (rs : List Request). y.request ∷ rs) rest.after)
+    go Greater other rest = (y.request ∷ rest.prefix, rest.back, ap (λ (rs : List Request). y.request ∷ rs) rest.before, ap (λ (rs : List Request). y.request ∷ rs) rest.after)
 
 -- it is so among the chosen ones, if it is chosen
 pub put_chosen : (c : RequestId → Bool) (r : Request) (rs all : List Request) → IsPut r rs all → c r.id ≡ true → IsPut r (chosen_of c rs) (chosen_of c all)
 put_chosen c r rs all p is = record {
-  front = chosen_of c p.front;
+  prefix = chosen_of c p.prefix;
   back = chosen_of c p.back;
-  before = sym (filter-append (λ (r : Request). c r.id) p.front p.back) ∙ ap (chosen_of c) p.before;
-  after = ap (λ (b : Bool). chosen_of c p.front ++ cond b (r ∷ chosen_of c p.back) (chosen_of c p.back)) (sym is) ∙ sym (filter-append (λ (r : Request). c r.id) p.front (r ∷ p.back)) ∙ ap (chosen_of c) p.after;
+  before = sym (filter-append (λ (r : Request). c r.id) p.prefix p.back) ∙ ap (chosen_of c) p.before;
+  after = ap (λ (b : Bool). chosen_of c p.prefix ++ cond b (r ∷ chosen_of c p.back) (chosen_of c p.back)) (sym is) ∙ sym (filter-append (λ (r : Request). c r.id) p.prefix (r ∷ p.back)) ∙ ap (chosen_of c) p.after;
 }
 
 -- else the chosen ones are as they were
 pub put_unchosen : (c : RequestId → Bool) (r : Request) (rs all : List Request) → IsPut r rs all → c r.id ≡ false → chosen_of c all ≡ chosen_of c rs
 put_unchosen c r rs all p is =
-    sym (ap (chosen_of c) p.after) ∙ filter-append (λ (r : Request). c r.id) p.front (r ∷ p.back)
-    ∙ ap (λ (b : Bool). chosen_of c p.front ++ cond b (r ∷ chosen_of c p.back) (chosen_of c p.back)) is
-    ∙ sym (filter-append (λ (r : Request). c r.id) p.front p.back) ∙ ap (chosen_of c) p.before
+    sym (ap (chosen_of c) p.after) ∙ filter-append (λ (r : Request). c r.id) p.prefix (r ∷ p.back)
+    ∙ ap (λ (b : Bool). chosen_of c p.prefix ++ cond b (r ∷ chosen_of c p.back) (chosen_of c p.back)) is
+    ∙ sym (filter-append (λ (r : Request). c r.id) p.prefix p.back) ∙ ap (chosen_of c) p.before
 
 -- ---- what is told of the requests then
 
@@ -221,16 +221,16 @@ both_empty (y ∷ xs) ys x e = absurd cc
 -- it has the hash, which nothing had; or it hasn't, and those are the same that had it
 pub ids_put : (h : ℕ) (r : Request) (rs all : List Request) → IsPut r rs all → (b : Bool) → touches r.command h ≡ b → (b ≡ true → ids_with h rs ≡ []) → ids_with h all ≡ cond b (r.id ∷ []) (ids_with h rs)
 ids_put h r rs all p true e none =
-    let empty : ids_with h p.front ++ ids_with h p.back ≡ [] = sym (ids_appended h p.front p.back) ∙ ap (ids_with h) p.before ∙ none refl in
+    let empty : ids_with h p.prefix ++ ids_with h p.back ≡ [] = sym (ids_appended h p.prefix p.back) ∙ ap (ids_with h) p.before ∙ none refl in
     sym (ap (ids_with h) p.after)
-    ∙ ids_among h p.front p.back r
-    ∙ ap (λ (b : Bool). ids_with h p.front ++ cond b (r.id ∷ ids_with h p.back) (ids_with h p.back)) e
-    ∙ both_empty (ids_with h p.front) (ids_with h p.back) r.id empty
+    ∙ ids_among h p.prefix p.back r
+    ∙ ap (λ (b : Bool). ids_with h p.prefix ++ cond b (r.id ∷ ids_with h p.back) (ids_with h p.back)) e
+    ∙ both_empty (ids_with h p.prefix) (ids_with h p.back) r.id empty
 ids_put h r rs all p false e none =
     sym (ap (ids_with h) p.after)
-    ∙ ids_among h p.front p.back r
-    ∙ ap (λ (b : Bool). ids_with h p.front ++ cond b (r.id ∷ ids_with h p.back) (ids_with h p.back)) e
-    ∙ sym (ids_appended h p.front p.back)
+    ∙ ids_among h p.prefix p.back r
+    ∙ ap (λ (b : Bool). ids_with h p.prefix ++ cond b (r.id ∷ ids_with h p.back) (ids_with h p.back)) e
+    ∙ sym (ids_appended h p.prefix p.back)
     ∙ ap (ids_with h) p.before
 
 -- which of the ids with a hash are chosen
@@ -257,13 +257,13 @@ used_among n s (q ∷ rs) ss r =
 
 pub used_put : (n s : ℕ) (r : Request) (rs all : List Request) → IsPut r rs all → used_by n all s ≡ used_by n rs s + in_set n s (hashes r.command)
 used_put n s r rs all p =
-    sym (ap (λ (rs : List Request). used_by n rs s) p.after) ∙ used_among n s p.front p.back r
+    sym (ap (λ (rs : List Request). used_by n rs s) p.after) ∙ used_among n s p.prefix p.back r
     ∙ ap (λ (rs : List Request). used_by n rs s + in_set n s (hashes r.command)) p.before
 
 pub length_put : (r : Request) (rs all : List Request) → IsPut r rs all → length all ≡ length rs + 1
 length_put r rs all p =
-    let every = sym (ap (λ (rs : List Request). length rs) p.after) ∙ length-append p.front (r ∷ p.back) in
-    let before = sym (ap (λ (rs : List Request). length rs) p.before) ∙ length-append p.front p.back in
+    let every = sym (ap (λ (rs : List Request). length rs) p.after) ∙ length-append p.prefix (r ∷ p.back) in
+    let before = sym (ap (λ (rs : List Request). length rs) p.before) ∙ length-append p.prefix p.back in
     omega (arith, every, before)
 
 -- ---- the slots of the chosen ones

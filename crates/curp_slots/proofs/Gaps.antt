@@ -59,9 +59,9 @@ shifted held len at n within fits =
     ∙ take-paste held (at + 1) (drop at held) (len - at) (omega arith) (omega arith)
     ∙ ap (λ xs. xs ++ behind) (take_more held at 0 (omega arith))
     ∙ append_assoc (take at held) (get_or held at 0 ∷ []) behind in
-    let front : length (take at held) ≡ at = length-take-le at held (omega arith) in
+    let prefix : length (take at held) ≡ at = length-take-le at held (omega arith) in
     let put : set (take at held ++ get_or held at 0 ∷ behind) at n ≡ take at held ++ n ∷ behind =
-    ap (λ k. set (take at held ++ get_or held at 0 ∷ behind) k n) (sym front) ∙ set-append_seam (take at held) (get_or held at 0) behind n in
+    ap (λ k. set (take at held ++ get_or held at 0 ∷ behind) k n) (sym prefix) ∙ set-append_seam (take at held) (get_or held at 0) behind n in
     take-set-lt (len + 1) (paste held (at + 1) (drop at held) (len - at)) at n (omega arith)
     ∙ ap (λ xs. set xs at n) moved
     ∙ put

@@ -128,9 +128,9 @@ last_has : (P : ℕ → Type 0) (ns : List ℕ) (n : ℕ) → Each P (ns ++ n �
 last_has P [] n all = all.0
 last_has P (m ∷ ns) n all = last_has P ns n all.1
 
-front_has : (P : ℕ → Type 0) (ns : List ℕ) (n : ℕ) → Each P (ns ++ n ∷ []) → Each P ns
-front_has P [] n all = tt
-front_has P (m ∷ ns) n all = (all.0, front_has P ns n all.1)
+prefix_has : (P : ℕ → Type 0) (ns : List ℕ) (n : ℕ) → Each P (ns ++ n ∷ []) → Each P ns
+prefix_has P [] n all = tt
+prefix_has P (m ∷ ns) n all = (all.0, prefix_has P ns n all.1)
 
 -- what is known where a place is given
 module _ (kept : List HeldRequest) (x : HeldRequest) (p : IndexPlace) (free left : List ℕ) (es : List IndexPlace) (f : Each (IsFilled kept) es) (inside : Each (λ (at : ℕ). at < length kept) free)
@@ -210,7 +210,7 @@ module _ (kept : List HeldRequest) (x : HeldRequest) (p : IndexPlace) (free left
 
   pub within_added : Each (λ (at : ℕ). at < length (put_at kept p.1 x)) left
   within_added = elim given [
-    | inl e ↦ Each-weaker (λ (at : ℕ). at < length kept) (λ (at : ℕ). at < length (put_at kept p.1 x)) (λ n l. omega (arith, l, size_least)) left (front_has (λ (at : ℕ). at < length kept) left p.1 (subst (λ (ns : List ℕ). Each (λ (at : ℕ). at < length kept) ns) e inside))
+    | inl e ↦ Each-weaker (λ (at : ℕ). at < length kept) (λ (at : ℕ). at < length (put_at kept p.1 x)) (λ n l. omega (arith, l, size_least)) left (prefix_has (λ (at : ℕ). at < length kept) left p.1 (subst (λ (ns : List ℕ). Each (λ (at : ℕ). at < length kept) ns) e inside))
     | inr e ↦ subst (λ (ns : List ℕ). Each (λ (at : ℕ). at < length (put_at kept p.1 x)) ns) (sym e.1) tt
   ]
 

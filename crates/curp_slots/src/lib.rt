@@ -6,9 +6,9 @@
 //! - `hold`, clauses `state` and `answer`: exact, so it accepts or rejects as `rejected_exactly` says. It takes no
 //!   memory. `start`, `probe`, `mode`, `epoch`, `holds`: exact.
 //! - `gc`, clauses `state` and `answer`: exact; the listed requests are dropped, what remains has survived one more
-//!   collection, and the suspects are given in ascending order of their ids. For want of memory nothing has changed. It
+//!   collection, and the suspects are given in ascending order of their ids. Out of memory, nothing has changed. It
 //!   costs a search for each listed id, for each held request and for each slot.
-//! - `freeze`: what it holds, in ascending order of the least hashes: exact; for want of memory it isn't frozen. That
+//! - `freeze`: what it holds, in ascending order of the least hashes: exact; out of memory, it isn't frozen. That
 //!   what it holds stands in order of the ids is a clause.
 #![tactic(auto)]
 

@@ -149,7 +149,7 @@ impl Tail {
         ensures { self.new.entries ≡ filter (λ entry. nat_le length entry.index) self.old.entries }
     {
         let forgotten = self.entries.partition_point(|entry| entry.index < length);
-        forget_front(&mut self.entries, &mut self.lasts, forgotten);
+        forget_prefix(&mut self.entries, &mut self.lasts, forgotten);
         self.ranges.retain(|moved| moved.index >= length);
     }
 }
@@ -258,7 +258,7 @@ fn note(lasts: &mut HashMap<u64, u64>, hash: u64, index: u64)
 }
 
 /// Forgets so many of the first entries.
-fn forget_front(entries: &mut VecDeque<TailEntry>, lasts: &mut HashMap<u64, u64>, count: usize)
+fn forget_prefix(entries: &mut VecDeque<TailEntry>, lasts: &mut HashMap<u64, u64>, count: usize)
     requires within { count ≤ length entries.old.items }
     requires rise { IndexesRise entries.old.items }
     requires lasts { LastsAre (get nat_eq lasts.old) entries.old.items }

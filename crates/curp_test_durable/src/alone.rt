@@ -82,7 +82,7 @@ fn try_crash(rt: &impl Abort, alloc: Global, clients: u32, call: u64, kept: bool
 }
 
 #[test]
-fn an_order_is_kept_once_its_gate_is(rt: HostRuntime) {
+fn an_order_is_kept_once_its_commit_is(rt: HostRuntime) {
     for clients in 0..10 {
         for call in 1..=4 {
             try_crash(&rt, rt.alloc(), clients, call, false);

@@ -63,7 +63,7 @@ fn try_crash(rt: &impl Abort, alloc: Global, call: u64, kept: bool) {
 }
 
 #[test]
-fn a_batch_is_kept_once_its_gate_is(rt: HostRuntime) {
+fn a_batch_is_kept_once_its_commit_is(rt: HostRuntime) {
     for call in 1..=4 {
         try_crash(&rt, rt.alloc(), call, false);
         try_crash(&rt, rt.alloc(), call, true);
@@ -124,7 +124,7 @@ fn try_to_fill(rt: &impl Abort, alloc: Global, durable: &mut Durable<BackupNode,
     assert_eq!(rt; keeps(rt, alloc, durable, 1), Err(DurableError::Full));
 }
 
-/// A message has 49 bytes, a batch 13 more, the title and the last gate 5: with a fourth message the journal has 227.
+/// A message has 49 bytes, a batch 13 more, the title and the last commit 5: with a fourth message the journal has 227.
 #[test]
 fn a_journal_may_be_full(rt: HostRuntime) {
     let alloc = rt.alloc();

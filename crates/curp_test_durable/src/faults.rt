@@ -58,7 +58,7 @@ fn told_by_batch(
 }
 
 /// Writing the journal asks for the length, writes and syncs; opening it syncs, asks for the length and reads; a batch is
-/// written and synced, and then its gate.
+/// written and synced, and then its commit.
 #[test]
 fn each_call_of_a_disk_that_fails_is_told(rt: HostRuntime) {
     for failing in 1..=11 {

@@ -1,9 +1,9 @@
-//! Entries are packed as their spellings, and read of them; what is cut or changed is told.
+//! Entries are packed as their encodings, and read of them; what is cut or changed is told.
 ghost use Rattle.std.specs.Prelude.{IsTrue};
-ghost use Rattle.curp_items.specs.Spelling.{HasSpelling};
+ghost use Rattle.curp_items.specs.Encoding.{HasEncoding};
 
 use crate::build::{all_kinds, give, largest, op, op_of, request, take, value};
-use crate::hex::{Spelled, bytes_of, spelling_of};
+use crate::hex::{Encoded, bytes_of, encoding_of};
 use crate::holds::must_hold;
 use curp_cmd::{Entry, Request};
 use curp_items::{EntryError, pack_entry, read_entry, read_request};
@@ -12,8 +12,8 @@ use std::alloc::Global;
 use std::process::Abort;
 
 /// Whether each list of the entry's package is short enough for its count.
-fn has_spelling(entry: &Entry) -> bool
-    ensures { IsTrue result → HasSpelling entry.now }
+fn has_encoding(entry: &Entry) -> bool
+    ensures { IsTrue result → HasEncoding entry.now }
 {
     match entry {
         Entry::Take { package, .. } | Entry::Give { package, .. } => package.len() < 1 << 32,
@@ -23,9 +23,9 @@ fn has_spelling(entry: &Entry) -> bool
 
 // ---- what is called, of which the tests know nothing
 
-/// Appends the entry's spelling.
+/// Appends the entry's encoding.
 fn pack(rt: &impl Abort, entry: &Entry, bytes: &mut Vec<u8>) {
-    assert!(rt; has_spelling(entry));
+    assert!(rt; has_encoding(entry));
     assert!(rt; pack_entry(entry, bytes).is_ok());
 }
 
@@ -37,15 +37,15 @@ fn are_same(one: &Entry, other: &Entry) -> bool {
     one.same(other)
 }
 
-fn spelled(bytes: &[u8]) -> Option<u64> {
-    curp_items::spelled(bytes)
+fn encoded(bytes: &[u8]) -> Option<u64> {
+    curp_items::encoded(bytes)
 }
 
 fn read_as(bytes: &[u8]) -> Option<Request> {
     read_request(bytes)
 }
 
-// ---- an entry and its spelling
+// ---- an entry and its encoding
 
 fn is_packed(rt: &impl Abort, alloc: Global, entry: &Entry, bytes: &[u8]) -> bool {
     let mut packed = Vec::from_slice(alloc, b"before").expect(rt, "no memory");
@@ -53,7 +53,7 @@ fn is_packed(rt: &impl Abort, alloc: Global, entry: &Entry, bytes: &[u8]) -> boo
     packed.strip_prefix(b"before".as_slice()) == Some(bytes)
 }
 
-/// How long the spelling is that the bytes begin with, if it is that of the entry.
+/// How long the encoding is that the bytes begin with, if it is that of the entry.
 fn length_of(alloc: Global, bytes: &[u8], entry: &Entry) -> Option<usize> {
     match entry_of(alloc, bytes) {
         Ok((found, end)) => {
@@ -76,10 +76,10 @@ fn fault_of(alloc: Global, bytes: &[u8]) -> Option<EntryError> {
     }
 }
 
-/// Whether the bytes are the entry's spelling.
+/// Whether the bytes are the entry's encoding.
 fn is_read(alloc: Global, entry: &Entry, bytes: &[u8]) -> bool {
     let length = bytes.len();
-    length_of(alloc, bytes, entry) == Some(length) && spelled(bytes) == Some(length as u64)
+    length_of(alloc, bytes, entry) == Some(length) && encoded(bytes) == Some(length as u64)
 }
 
 fn request_of(entry: &Entry) -> Option<Request> {
@@ -96,12 +96,12 @@ fn has_its_request(entry: &Entry, bytes: &[u8]) -> bool {
 
 /// Whether these bytes are no entry, for that place, and no request.
 fn is_none(alloc: Global, bytes: &[u8], place: u64) -> bool {
-    fault_of(alloc, bytes) == Some(EntryError::BadEntry { place }) && spelled(bytes).is_none()
+    fault_of(alloc, bytes) == Some(EntryError::BadEntry { place }) && encoded(bytes).is_none()
 }
 
-fn cuts_are_told(alloc: Global, spelling: &Spelled) -> bool {
-    for (end, item) in spelling.items.iter().enumerate() {
-        let Some(cut) = spelling.bytes.get(..end) else {
+fn cuts_are_told(alloc: Global, encoding: &Encoded) -> bool {
+    for (end, item) in encoding.items.iter().enumerate() {
+        let Some(cut) = encoding.bytes.get(..end) else {
             return false;
         };
         if !is_none(alloc, cut, *item) {
@@ -111,7 +111,7 @@ fn cuts_are_told(alloc: Global, spelling: &Spelled) -> bool {
     true
 }
 
-// ---- changes of a spelling
+// ---- changes of a encoding
 
 /// Whether another entry was read, which has these bytes.
 fn is_another(
@@ -122,7 +122,7 @@ fn is_another(
     bytes: Option<&[u8]>,
 ) -> bool {
     match bytes {
-        Some(front) => !are_same(found, entry) && is_packed(rt, alloc, found, front),
+        Some(prefix) => !are_same(found, entry) && is_packed(rt, alloc, found, prefix),
         None => false,
     }
 }
@@ -164,9 +164,9 @@ fn bits_are_told(
     true
 }
 
-fn changes_are_told(rt: &impl Abort, alloc: Global, entry: &Entry, spelling: &mut Spelled) -> bool {
-    for (place, item) in spelling.items.iter().enumerate() {
-        if !bits_are_told(rt, alloc, entry, &mut spelling.bytes, (place, *item)) {
+fn changes_are_told(rt: &impl Abort, alloc: Global, entry: &Entry, encoding: &mut Encoded) -> bool {
+    for (place, item) in encoding.items.iter().enumerate() {
+        if !bits_are_told(rt, alloc, entry, &mut encoding.bytes, (place, *item)) {
             return false;
         }
     }
@@ -174,14 +174,14 @@ fn changes_are_told(rt: &impl Abort, alloc: Global, entry: &Entry, spelling: &mu
 }
 
 fn try_entry(rt: &impl Abort, alloc: Global, entry: &Entry, text: &str) {
-    let mut spelling = spelling_of(rt, alloc, text);
-    let is_packed = is_packed(rt, alloc, entry, &spelling.bytes);
+    let mut encoding = encoding_of(rt, alloc, text);
+    let is_packed = is_packed(rt, alloc, entry, &encoding.bytes);
     must_hold(rt, text, "packed", is_packed);
-    must_hold(rt, text, "read", is_read(alloc, entry, &spelling.bytes));
-    let is_asked = has_its_request(entry, &spelling.bytes);
+    must_hold(rt, text, "read", is_read(alloc, entry, &encoding.bytes));
+    let is_asked = has_its_request(entry, &encoding.bytes);
     must_hold(rt, text, "request", is_asked);
-    must_hold(rt, text, "cut", cuts_are_told(alloc, &spelling));
-    let are_told = changes_are_told(rt, alloc, entry, &mut spelling);
+    must_hold(rt, text, "cut", cuts_are_told(alloc, &encoding));
+    let are_told = changes_are_told(rt, alloc, entry, &mut encoding);
     must_hold(rt, text, "changed", are_told);
 }
 
@@ -190,7 +190,7 @@ fn row(rt: &impl Abort, alloc: Global, entry: Entry, text: &str) {
     drop(entry);
 }
 
-/// An entry of each kind, with its spelling written by hand.
+/// An entry of each kind, with its encoding written by hand.
 #[test]
 fn entries_of_each_kind(rt: HostRuntime) {
     let alloc = rt.alloc();

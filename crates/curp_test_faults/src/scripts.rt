@@ -99,11 +99,11 @@ const TEXT: &str = "s1 done\n\
     order 1\n\
     1.1 put 61 31 -> done\n";
 
-/// The put ends with that fault and a front of its text, or, where that call isn't made, with the whole of it.
+/// The put ends with that fault and a prefix of its text, or, where that call isn't made, with the whole of it.
 fn try_call(rt: &impl Abort, alloc: Global, failing: Failing, fault: Status) {
     let ended = played(rt, alloc, SCRIPT, failing);
-    let is_front = TEXT.as_bytes().starts_with(ended.sink.bytes());
-    let is_cut = ended.status == fault && is_front;
+    let is_prefix = TEXT.as_bytes().starts_with(ended.sink.bytes());
+    let is_cut = ended.status == fault && is_prefix;
     assert!(rt; ended.is(Status::Ok, TEXT) || is_cut);
     drop(ended);
 }

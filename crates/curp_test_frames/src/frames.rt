@@ -1,7 +1,7 @@
 //! A message is written as its frame, and read of it; what is cut or changed is told.
 
 use crate::build::message;
-use crate::hex::{Spelled, spelling_of};
+use crate::hex::{Encoded, encoding_of};
 use crate::holds::must_hold;
 use curp_base::NoMemory;
 use curp_msg::{Body, Message};
@@ -79,7 +79,7 @@ fn is_read(rt: &impl Abort, alloc: Global, message: &Message, frame: &[u8]) -> b
     reads(alloc, frame, message, frame.len()) && reads(alloc, &more, message, frame.len())
 }
 
-/// Whether the front of a frame is short, by what its length asks for.
+/// Whether the prefix of a frame is short, by what its length asks for.
 fn is_short(alloc: Global, frame: &[u8], end: usize) -> bool {
     let need = if end < 4 { 4 } else { frame.len() as u64 };
     match frame.get(..end) {
@@ -180,7 +180,7 @@ fn bits_are_told(
     true
 }
 
-fn changes_are_told(alloc: Global, message: &Message, frame: &mut Spelled) -> bool {
+fn changes_are_told(alloc: Global, message: &Message, frame: &mut Encoded) -> bool {
     for (place, item) in frame.items.iter().enumerate() {
         if !bits_are_told(alloc, message, &mut frame.bytes, (place, *item)) {
             return false;
@@ -190,7 +190,7 @@ fn changes_are_told(alloc: Global, message: &Message, frame: &mut Spelled) -> bo
 }
 
 fn try_message(rt: &impl Abort, alloc: Global, message: &Message, text: &str) {
-    let mut frame = spelling_of(rt, alloc, text);
+    let mut frame = encoding_of(rt, alloc, text);
     let is_written = is_written(alloc, message, &frame.bytes);
     must_hold(rt, text, "written", is_written);
     let is_read = is_read(rt, alloc, message, &frame.bytes);

@@ -6,35 +6,35 @@ use std::process::Abort;
 
 /// Bytes, and for each of them the place of its item's first byte.
 #[derive(Drop)]
-pub(crate) struct Spelled {
+pub(crate) struct Encoded {
     pub(crate) bytes: Vec<u8>,
     pub(crate) items: Vec<u64>,
 }
 
 /// Appends the bytes of a word, and for each of them where the word begins.
-fn push_item(spelled: &mut Spelled, word: &str) -> Result<(), NoMemory> {
-    let item = spelled.bytes.len() as u64;
-    push_word(&mut spelled.bytes, word)?;
-    for _ in spelled.items.len()..spelled.bytes.len() {
-        spelled.items.push(item)?;
+fn push_item(encoded: &mut Encoded, word: &str) -> Result<(), NoMemory> {
+    let item = encoded.bytes.len() as u64;
+    push_word(&mut encoded.bytes, word)?;
+    for _ in encoded.items.len()..encoded.bytes.len() {
+        encoded.items.push(item)?;
     }
     Ok(())
 }
 
-fn push_items(spelled: &mut Spelled, text: &str) -> Result<(), NoMemory> {
+fn push_items(encoded: &mut Encoded, text: &str) -> Result<(), NoMemory> {
     for word in text.split(' ') {
-        push_item(spelled, word)?;
+        push_item(encoded, word)?;
     }
     Ok(())
 }
 
-pub(crate) fn spelling_of(rt: &impl Abort, alloc: Global, text: &str) -> Spelled {
-    let mut spelled = Spelled {
+pub(crate) fn encoding_of(rt: &impl Abort, alloc: Global, text: &str) -> Encoded {
+    let mut encoded = Encoded {
         bytes: Vec::new(alloc),
         items: Vec::new(alloc),
     };
-    assert!(rt; push_items(&mut spelled, text).is_ok());
-    spelled
+    assert!(rt; push_items(&mut encoded, text).is_ok());
+    encoded
 }
 
 /// Two digits a byte.

@@ -3,7 +3,7 @@
 use crate::build::{id, key, made, must, request, right, shared};
 use curp_base::Shared;
 use curp_cmd::{Answer, Command, KeptCommand, NodeId, NodeKind, Request, RequestId, Standby};
-use curp_line::{Line, Tenure};
+use curp_line::{Line, Term};
 use curp_msg::{Capture, Completed};
 use std::alloc::Global;
 use std::process::Abort;
@@ -36,8 +36,8 @@ fn read(rt: &impl Abort, alloc: Global) -> KeptCommand {
 }
 
 // The master's time over the first partition, of that epoch.
-fn of_first(master: NodeId, epoch: u32) -> Tenure {
-    Tenure {
+fn of_first(master: NodeId, epoch: u32) -> Term {
+    Term {
         master,
         part: 1,
         epoch,
@@ -45,14 +45,14 @@ fn of_first(master: NodeId, epoch: u32) -> Tenure {
 }
 
 fn executed(rt: &impl Abort, alloc: Global, line: &mut Line, part: u32, index: u64, id: RequestId) {
-    let tenure = Tenure {
+    let term = Term {
         master: FIRST,
         part,
         epoch: 1,
     };
     let update = kept_update(rt, alloc);
     made(rt, line.reserve(1));
-    line.executed(tenure, index, id, update);
+    line.executed(term, index, id, update);
 }
 
 // The read at that capture, where the log had that length.
@@ -107,7 +107,7 @@ fn adopt(
     rt: &impl Abort,
     alloc: Global,
     line: &mut Line,
-    (tenure, cut): (Tenure, u64),
+    (term, cut): (Term, u64),
     replayed: &[Shared<Request>],
 ) {
     let count = replayed.len() as u64;
@@ -115,7 +115,7 @@ fn adopt(
     let mut standby = Standby::new(alloc);
     made(rt, standby.reserve(count));
     made(rt, line.reserve(1 + count));
-    line.adopted(&mut standby, tenure, cut, replayed);
+    line.adopted(&mut standby, term, cut, replayed);
     drop(standby);
 }
 
@@ -123,7 +123,7 @@ fn adopt_ids(
     rt: &impl Abort,
     alloc: Global,
     line: &mut Line,
-    adoption: (Tenure, u64),
+    adoption: (Term, u64),
     ids: &[RequestId],
 ) {
     let replayed = replayed(rt, alloc, ids);
@@ -192,10 +192,10 @@ fn adopted(
 
 // The master answers a read at once, by which it completes.
 fn read_at_once(rt: &impl Abort, alloc: Global, line: &mut Line, by: Capture, id: RequestId) {
-    let tenure = of_first(by.master, by.epoch);
+    let term = of_first(by.master, by.epoch);
     let read = read(rt, alloc);
     made(rt, line.reserve(1));
-    line.quick(tenure, by.number, id, read);
+    line.quick(term, by.number, id, read);
     read_by(line, id, by);
 }
 
@@ -270,12 +270,12 @@ fn thirty_thousand(rt: &impl Abort, alloc: Global) -> Line {
 fn adopt_all(rt: &impl Abort, alloc: Global, line: &mut Line) {
     for n in 0..64_u32 {
         let both = [nth(29_998 - 4 * n), nth(29_996 - 4 * n)];
-        let tenure = Tenure {
+        let term = Term {
             master: SECOND,
             part: 0,
             epoch: 2 + n,
         };
-        adopt_ids(rt, alloc, line, (tenure, u64::from(1_000 + n)), &both);
+        adopt_ids(rt, alloc, line, (term, u64::from(1_000 + n)), &both);
     }
 }
 

@@ -8,12 +8,12 @@ use crate::packages::{ascending, gone, held, package};
 use curp_backup::Backup;
 use curp_base::past;
 use curp_cmd::{Answer, Command, Entry, Key, Package, Request, RequestId, TablePart, Value};
-use curp_entries::{PackedEntries, has_spelling};
+use curp_entries::{PackedEntries, has_encoding};
 use curp_same::{Same, all_same};
 use std::alloc::Global;
 use std::process::Abort;
 
-// ---- Entries of all four kinds in turn, which have the numbers of their places, and how they are spelled
+// ---- Entries of all four kinds in turn, which have the numbers of their places, and how they are encoded
 
 fn entry_at(rt: &impl Abort, alloc: Global, number: u32) -> Entry {
     match number % 4 {
@@ -65,7 +65,7 @@ const PACKAGE: &[u8] = b"\x00\x00\x00\x00\x00\x00\x00\x00\x00\x00\x00\x00\x00\x0
     \x00\x00\x00\x02\x00\x00\x00\x01\x00\x00\x00\x09\x00\x00\x00\x02\x00\x00\x00\x03\
     \x00\x00\x00\x01\x00\x00\x00\x04";
 
-fn spell(rt: &impl Abort, number: u32, bytes: &mut Vec<u8>) {
+fn encode(rt: &impl Abort, number: u32, bytes: &mut Vec<u8>) {
     let number_bytes = number.to_be_bytes();
     let own = number_bytes.as_slice();
     let parts = match number % 4 {
@@ -79,10 +79,10 @@ fn spell(rt: &impl Abort, number: u32, bytes: &mut Vec<u8>) {
     }
 }
 
-fn spelled(rt: &impl Abort, alloc: Global, count: u32) -> Vec<u8> {
+fn encoded(rt: &impl Abort, alloc: Global, count: u32) -> Vec<u8> {
     let mut bytes = Vec::new(alloc);
     for number in 0..count {
-        spell(rt, number, &mut bytes);
+        encode(rt, number, &mut bytes);
     }
     bytes
 }
@@ -139,9 +139,9 @@ fn try_packing(rt: &impl Abort, alloc: Global, kept: &mut PackedEntries, packed:
     try_packed(rt, alloc, kept, packed);
 }
 
-// So many are packed, as the bytes that are spelled here.
+// So many are packed, as the bytes that are encoded here.
 fn try_packed(rt: &impl Abort, alloc: Global, kept: &PackedEntries, packed: u32) {
-    let bytes = spelled(rt, alloc, packed);
+    let bytes = encoded(rt, alloc, packed);
     let (count, found) = kept.packed();
     right_at(rt, count == u64::from(packed), "packed", count);
     right_at(rt, are(found, &bytes), "packed bytes", count);
@@ -338,7 +338,7 @@ fn try_backup(rt: &impl Abort, backup: &Backup, plain: &[Entry]) {
 }
 
 fn try_whole(rt: &impl Abort, alloc: Global, backup: &mut Backup, plain: &[Entry]) {
-    let bytes = spelled(rt, alloc, 9_920);
+    let bytes = encoded(rt, alloc, 9_920);
     right(rt, are(backup.packed().1, &bytes), "whole");
     drop(bytes);
     try_fenced(rt, backup, plain);
@@ -477,39 +477,39 @@ fn try_large(rt: &impl Abort, alloc: Global, kept: &PackedEntries) {
     // A tag, a migration, two hashes, and four counts with their items, before the others.
     let first = 1 + 4 + 16 + 4 * 4 + 10_000 * (5 + 129 + 9 + 8 + 4);
     match bytes.get(first..) {
-        Some(rest) => try_spelled_rest(rt, alloc, rest),
+        Some(rest) => try_encoded_rest(rt, alloc, rest),
         None => panic!(rt; "too few bytes"),
     }
 }
 
-fn try_spelled_rest(rt: &impl Abort, alloc: Global, found: &[u8]) {
-    let rest = spelled(rt, alloc, 63);
+fn try_encoded_rest(rt: &impl Abort, alloc: Global, found: &[u8]) {
+    let rest = encoded(rt, alloc, 63);
     right(rt, are(found, &rest), "bytes behind the large");
     drop(rest);
 }
 
-// ---- What has no spelling
+// ---- What has no encoding
 
-/// Whether the entry has a spelling. No memory holds a list that is too long for its count, so what is told of such an entry
+/// Whether the entry has a encoding. No memory holds a list that is too long for its count, so what is told of such an entry
 /// is proved of the rule.
-fn is_spelled(entry: &Entry) -> bool
+fn is_encoded(entry: &Entry) -> bool
     ensures pairs { (migration : ℕ) (taken : Package) → entry.now ≡ Take migration taken
         → 2 ^ 32 ≤ length taken.pairs → result ≡ false }
     ensures records { (migration : ℕ) (given : Package) → entry.now ≡ Give migration given
         → 2 ^ 32 ≤ length given.table.records → result ≡ false }
 {
-    has_spelling(entry)
+    has_encoding(entry)
 }
 
 #[test]
-fn small_entries_have_a_spelling(rt: HostRuntime) {
+fn small_entries_have_a_encoding(rt: HostRuntime) {
     let small = entries(&rt, rt.alloc(), 8);
-    try_spelled(&rt, &small);
+    try_encoded(&rt, &small);
     drop(small);
 }
 
-fn try_spelled(rt: &impl Abort, entries: &[Entry]) {
+fn try_encoded(rt: &impl Abort, entries: &[Entry]) {
     for entry in entries {
-        right(rt, is_spelled(entry), "spelled");
+        right(rt, is_encoded(entry), "encoded");
     }
 }

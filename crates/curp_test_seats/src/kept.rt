@@ -1,7 +1,7 @@
 // Journals of a small node: what is kept, how it is stamped and named, and that its inputs can be given again.
 use crate::asker::{Asker, begun, fetch, sync};
 use curp_journal::{Arrived, Item};
-use curp_seat::{Gate, Kept, Point, Running};
+use curp_seat::{Observer, Kept, Point, Running};
 use std::alloc::Global;
 use std::process::Abort;
 use std::sync::atomic::{AtomicU64, Ordering};
@@ -66,14 +66,14 @@ fn inputs_are_given_again(rt: HostRuntime) {
     drop(made);
 }
 
-// A gate that counts how often it hears of a step that isn't the next one.
+// A observer that counts how often it hears of a step that isn't the next one.
 #[derive(Drop)]
 struct Numbering {
     heard: AtomicU64,
     wrong: AtomicU64,
 }
 
-impl Gate for Numbering {
+impl Observer for Numbering {
     fn reach(&self, point: Point) {
         let heard = self.heard.fetch_add(1, Ordering::SeqCst);
         if point.count != heard.wrapping_add(1) {
@@ -86,26 +86,26 @@ impl Gate for Numbering {
 fn refusal(
     rt: &impl Abort,
     running: &mut Running<Asker>,
-    gate: &Numbering,
+    observer: &Numbering,
     arrived: Arrived,
 ) -> u8 {
-    match running.make(gate, arrived) {
+    match running.make(observer, arrived) {
         Ok(made) => made.refused,
         Err(_) => panic!(rt; "no memory"),
     }
 }
 
-// The gate hears of a step before it is made: also of one that the node then refuses.
+// The observer hears of a step before it is made: also of one that the node then refuses.
 #[test]
-fn a_gate_hears_before_the_step(rt: HostRuntime) {
-    let gate = Numbering {
+fn a_observer_hears_before_the_step(rt: HostRuntime) {
+    let observer = Numbering {
         heard: AtomicU64::new(0),
         wrong: AtomicU64::new(0),
     };
     let mut running = Running::new(rt.alloc(), begun(rt.alloc()));
-    assert!(rt; refusal(&rt, &mut running, &gate, fetch(0)) == 0);
-    assert!(rt; refusal(&rt, &mut running, &gate, sync(0)) == 1);
+    assert!(rt; refusal(&rt, &mut running, &observer, fetch(0)) == 0);
+    assert!(rt; refusal(&rt, &mut running, &observer, sync(0)) == 1);
     drop(running);
-    assert!(rt; gate.heard.load(Ordering::SeqCst) == 2);
-    assert!(rt; gate.wrong.load(Ordering::SeqCst) == 0);
+    assert!(rt; observer.heard.load(Ordering::SeqCst) == 2);
+    assert!(rt; observer.wrong.load(Ordering::SeqCst) == 0);
 }

@@ -2,7 +2,7 @@
 #![tactic(auto)]
 
 #[cfg(test)]
-mod gate;
+mod observer;
 #[cfg(test)]
 mod gather;
 #[cfg(test)]

@@ -4,7 +4,7 @@ ghost use Rattle.curp_gather.specs.Journals.{AreOf};
 ghost use Rattle.curp_msg.specs.Script.{IsHeader};
 ghost use Rattle.curp_words.specs.Plan.{IsLivePlan, live_header};
 
-use crate::gate::Watching;
+use crate::observer::Watching;
 use curp_base::NoMemory;
 use curp_cmd::Command;
 use curp_gather_ruled::{Ruled, RuledError, gather_ruled};
@@ -36,10 +36,10 @@ fn steps<R: Threads + Wait + Sync>(
     alloc: Global,
     room: Option<u32>,
     plan: &LivePlan,
-    gate: &Watching,
+    observer: &Watching,
 ) -> Result<Option<usize>, NoMemory> {
     let work = work_of(alloc, plan)?;
-    let steps = steps_of_work(rt, alloc, room, plan, &work, gate);
+    let steps = steps_of_work(rt, alloc, room, plan, &work, observer);
     drop(work);
     steps
 }
@@ -50,7 +50,7 @@ fn steps_of_work<R: Threads + Wait + Sync>(
     room: Option<u32>,
     plan: &LivePlan,
     work: &[Vec<Command>],
-    gate: &Watching,
+    observer: &Watching,
 ) -> Result<Option<usize>, NoMemory> {
     if !is_plan(plan) {
         return Ok(None);
@@ -58,7 +58,7 @@ fn steps_of_work<R: Threads + Wait + Sync>(
     if work.len() != plan.clients as usize {
         return Ok(None);
     }
-    let ruled = ran(rt, alloc, room, plan, work, gate)?;
+    let ruled = ran(rt, alloc, room, plan, work, observer)?;
     let steps = gathered(alloc, &plan.header(), &ruled);
     drop(ruled);
     steps
@@ -93,15 +93,15 @@ fn ran<R: Threads + Wait + Sync>(
     room: Option<u32>,
     plan: &LivePlan,
     work: &[Vec<Command>],
-    gate: &Watching,
+    observer: &Watching,
 ) -> Result<Ruled, NoMemory>
     requires plan { IsLivePlan plan.now }
     requires work { length work.now ≡ plan.now.clients }
     ensures { IfOk result (AreOf (live_header plan.now)) }
 {
     match room {
-        Some(room) if room > 0 => live_in_rooms(rt, alloc, room, plan, work, gate),
-        _ => live(rt, alloc, plan, work, gate),
+        Some(room) if room > 0 => live_in_rooms(rt, alloc, room, plan, work, observer),
+        _ => live(rt, alloc, plan, work, observer),
     }
 }
 
@@ -120,9 +120,9 @@ fn is_made_once<R: Threads + Wait + Sync>(
     rt: &R,
     alloc: Global,
     plan: &LivePlan,
-    gate: &Watching,
+    observer: &Watching,
 ) -> Result<bool, NoMemory> {
-    Ok(steps(rt, alloc, None, plan, gate)?.is_some() && gate.heard_one_run())
+    Ok(steps(rt, alloc, None, plan, observer)?.is_some() && observer.heard_one_run())
 }
 
 // Four clients with 50 commands each.
@@ -144,9 +144,9 @@ fn four_end<R: Threads + Wait + Sync>(
     protocol: Protocol,
     recoveries: u32,
 ) -> Result<bool, NoMemory> {
-    let gate = Watching::new(false);
+    let observer = Watching::new(false);
     let plan = of_four(protocol, recoveries);
-    Ok(is_made_once(rt, alloc, &plan, &gate)? && gate.later_steps() == 0)
+    Ok(is_made_once(rt, alloc, &plan, &observer)? && observer.later_steps() == 0)
 }
 
 #[test]
@@ -162,10 +162,10 @@ fn a_run_is_made_once_and_then_no_node_steps(rt: HostRuntime) -> Result<(), Fail
 // Nodes run beside each other: the first steps of a master and of a witness are due at one time.
 #[test]
 fn a_master_and_a_witness_meet(rt: HostRuntime) -> Result<(), Fail> {
-    let gate = Watching::new(true);
+    let observer = Watching::new(true);
     let plan = LivePlan::default();
-    assert!(rt; steps(&rt, rt.alloc(), None, &plan, &gate)?.is_some());
-    assert!(rt; gate.heard_them_meet());
+    assert!(rt; steps(&rt, rt.alloc(), None, &plan, &observer)?.is_some());
+    assert!(rt; observer.heard_them_meet());
     Ok(())
 }
 
@@ -247,10 +247,10 @@ fn is_made_twice_at_most<R: Threads + Wait + Sync>(
     parts: u32,
 ) -> Result<bool, NoMemory> {
     for recoveries in [0, 1, 2, 3, 8] {
-        let gate = Watching::new(false);
+        let observer = Watching::new(false);
         let plan = of_shape(f, parts, recoveries);
-        let is_script = steps(rt, alloc, None, &plan, &gate)?.is_some();
-        if !is_script || !gate.heard_two_runs_at_most() {
+        let is_script = steps(rt, alloc, None, &plan, &observer)?.is_some();
+        if !is_script || !observer.heard_two_runs_at_most() {
             return Ok(false);
         }
     }
@@ -283,8 +283,8 @@ fn a_hundred_runs_with_rooms_of_one_parcel_end(rt: HostRuntime) -> Result<(), Fa
         ..of_four(Protocol::One, 3)
     };
     for _ in 0..100 {
-        let gate = Watching::new(false);
-        let steps = steps(&rt, rt.alloc(), Some(1), &plan, &gate)?;
+        let observer = Watching::new(false);
+        let steps = steps(&rt, rt.alloc(), Some(1), &plan, &observer)?;
         assert!(rt; steps.is_some_and(|steps| steps > 80));
     }
     Ok(())

@@ -20,14 +20,14 @@ use Rattle.curp_wire.proofs.ItemSizes.{node_size}
 use Rattle.curp_fields.proofs.Formats.{bodies_again, bodies_sound}
 use Rattle.curp_fields.proofs.Having.{fields_pass, node_passes}
 use Rattle.curp_fields.specs.Fields.{body_parts, body_variants}
-use Rattle.curp_fields.specs.Spelled.{has_fields}
+use Rattle.curp_fields.specs.Encoded.{has_fields}
 use Rattle.curp_wire.specs.Frame.{Frame, IsMessage, content, content_limit, ended, frame_in, frame_of_length, has_content, has_frame, in_fields, is_tag, message_in, read_message}
 use Rattle.curp_wire.specs.declared.error.FrameError.{FrameError}
 use Rattle.curp_wire.specs.declared.error.FrameError.TheVariants as error
 
 -- ---- messages behind their tag
 
--- the sender, the addressee and the fields of a message were taken from the front
+-- the sender, the addressee and the fields of a message were taken from the prefix
 record TakesMessage (tag : ℕ) (at : Input) (m : Message) (after : Input) : Type 0 where
   message : IsMessage m
   tag_is : (body_parts m.body).tag ≡ tag
@@ -157,7 +157,7 @@ take-more n m xs =
     ∙ ap (λ (r : List ℕ). r ++ drop n (take (n + m) xs)) (take-take n (n + m) xs (omega arith))
     ∙ ap (λ (r : List ℕ). take n xs ++ r) (drop-take n m xs)
 
--- a frame at the front
+-- a frame at the prefix
 abbrev pub IsFound : List ℕ → Message × ℕ → Type 0
 IsFound bytes found = Frame found.0 (take found.1 bytes) × (found.1 ≤ length bytes)
 
@@ -184,11 +184,11 @@ pub frame_found : (bytes : List ℕ) (found : Message × ℕ) → AreBytes bytes
 frame_found bytes found h e =
     let a = passed (ltb (length bytes) 4) (error.Short 4) _ found e in
     let four : 4 ≤ length bytes = ltb-false (length bytes) 4 a.0 in
-    let front = take 4 bytes in
-    let size : length front ≡ 4 = omega (arith, length-take 4 bytes) in
-    let fits = byte_in front (All-take IsByte 4 bytes h) in
-    let most : from_be_bytes w32 front ≤ content_limit = omega (arith, fits 0, fits 1, fits 2, fits 3) in
-    of_length bytes (from_be_bytes w32 front) found h four most (be_bytes_4 front (from_be_bytes w32 front) size fits refl) a.1
+    let prefix = take 4 bytes in
+    let size : length prefix ≡ 4 = omega (arith, length-take 4 bytes) in
+    let fits = byte_in prefix (All-take IsByte 4 bytes h) in
+    let most : from_be_bytes w32 prefix ≤ content_limit = omega (arith, fits 0, fits 1, fits 2, fits 3) in
+    of_length bytes (from_be_bytes w32 prefix) found h four most (be_bytes_4 prefix (from_be_bytes w32 prefix) size fits refl) a.1
 
 -- four bytes that are a length, and enough behind them
 framed : (number more : List ℕ) (n : ℕ) → length number ≡ 4 → from_be_bytes w32 number ≡ n → 11 ≤ n → n ≤ length more → frame_in (number ++ more) ≡ (message_in (take n more) >>= λ m. okay (m, 4 + n))
@@ -216,9 +216,9 @@ frame_again m frame rest f =
     let laid : frame ++ rest ≡ number ++ (content m ++ rest) = ap (λ (r : List ℕ). r ++ rest) f.is ∙ append_assoc number (content m) rest in
     let small : n < 2 ^ 32 = omega (arith, f.short) in
     let read = framed number (content m ++ rest) n refl (from_be_bytes-to_be_bytes_4 n small) (content_least m f.message) (omega (arith, length-append (content m) rest)) in
-    let front = ap message_in (take_at (content m) rest n refl) ∙ content_again m f.message in
+    let prefix = ap message_in (take_at (content m) rest n refl) ∙ content_again m f.message in
     ap frame_in laid ∙ read
-    ∙ ap (λ (r : Result Message FrameError). r >>= λ m. okay (m, 4 + n)) front
+    ∙ ap (λ (r : Result Message FrameError). r >>= λ m. okay (m, 4 + n)) prefix
     ∙ ap (λ (k : ℕ). okay (m, k)) (sym (frame_length m frame f))
 
 -- no frame begins another

@@ -1,4 +1,4 @@
--- How long the spellings of items are at most.
+-- How long the encodings of items are at most.
 use Rattle.std.proofs.Common.{◌≡◌, ℕ, zero, suc, ◌+◌, ◌*◌, ◌<◌, ◌≤◌, Bool, true, false, ◌&&◌, T, List, [], ◌∷◌, ◌++◌, length, map, Option, Some, None, refl, sym, ap, ◌∙◌, arith}
 use Rattle.std.proofs.lemmas.Bool.{and_parts, leb-true}
 use Rattle.std.proofs.lemmas.Cmp.{ranked}
@@ -205,7 +205,7 @@ pub package_size : (p : Package) → package_format.Fits p → is_light_package 
 unfolding package_format table
 package_size p f e =
     let parts = and_parts (list_all (λ (r : RequestId × Answer). is_light_id r.0) p.table.records && list_all (λ (q : ℕ × ℕ). is_light_client q.0) p.table.firsts) (list_all is_light_client p.table.gone) e in
-    let front = and_parts (list_all (λ (r : RequestId × Answer). is_light_id r.0) p.table.records) (list_all (λ (q : ℕ × ℕ). is_light_client q.0) p.table.firsts) parts.0 in
+    let prefix = and_parts (list_all (λ (r : RequestId × Answer). is_light_id r.0) p.table.records) (list_all (λ (q : ℕ × ℕ). is_light_client q.0) p.table.firsts) parts.0 in
     let b : Bounds = record { lo = p.lo; hi = p.hi; ordered = p.ordered } in
     let t = records.of p.table.records ++ (firsts.of p.table.firsts ++ gone.of p.table.gone) in
     omega (
@@ -217,7 +217,7 @@ package_size p f e =
       bounds_size b,
       pairs_size p.pairs f.1.0,
       records_size p.table.records f.1.1.0,
-      firsts_size p.table.firsts f.1.1.1.0 (all_each _ _ front.1),
+      firsts_size p.table.firsts f.1.1.1.0 (all_each _ _ prefix.1),
       gone_size p.table.gone f.1.1.1.1 (all_each _ _ parts.1),
     )
 

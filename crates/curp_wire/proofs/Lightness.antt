@@ -1,4 +1,4 @@
--- A light message has a spelling, and its frame is short enough.
+-- A light message has a encoding, and its frame is short enough.
 use Rattle.std.proofs.Common.{◌≡◌, ℕ, suc, ◌+◌, ◌-◌, ◌*◌, ◌^◌, ◌<◌, ◌≤◌, Bool, true, ◌&&◌, List, [], ◌∷◌, ◌++◌, length, map, min, refl, sym, ap, ◌∙◌, arith}
 use Rattle.std.proofs.lemmas.Bool.{and_parts, leb-true}
 use Rattle.std.proofs.lemmas.List.{length-append}
@@ -11,7 +11,7 @@ use Rattle.curp_cmd.specs.declared.entry.Entry.TheVariants.{Op, Take, Give, Expi
 use Rattle.curp_cmd.specs.declared.migration.Package.{Package}
 use Rattle.curp_cmd.specs.declared.node.NodeId.{NodeId}
 use Rattle.curp_items.specs.Items.{is_node, node}
-use Rattle.curp_items.specs.Spelling.{HasPackageSpelling, HasSpelling}
+use Rattle.curp_items.specs.Encoding.{HasPackageEncoding, HasEncoding}
 use Rattle.curp_msg.specs.Weight.{carried, collection_weight, entries_weight, entry_weight, fence_weight, package_weight, part_weight, weight_of}
 use Rattle.curp_msg.specs.declared.answer.FenceReply.{FenceReply}
 use Rattle.curp_msg.specs.declared.answer.FenceReply.TheVariants as fence
@@ -26,34 +26,34 @@ use Rattle.curp_wire.proofs.Sizes.{fields_size}
 use Rattle.curp_fields.specs.Fields.{body_parts}
 use Rattle.curp_wire.specs.Frame.{IsMessage, content, content_limit}
 use Rattle.curp_wire.specs.Light.{are_light_nodes, is_light, is_light_body, is_light_client, is_light_collection, is_light_entry, is_light_id, is_light_package, is_light_part, is_light_reply}
-use Rattle.curp_fields.specs.Spelling.{AreEntries, AreNodes, HasContent, HasFields, IsCollection, IsFenceReply, IsNamed, IsPart}
+use Rattle.curp_fields.specs.Encoding.{AreEntries, AreNodes, HasContent, HasFields, IsCollection, IsFenceReply, IsNamed, IsPart}
 
 -- ---- lists that weigh little
 
-package_spelled : (p : Package) → is_light_package p ≡ true → package_weight p ≤ 19999 → HasPackageSpelling p
-package_spelled p l w =
+package_encoded : (p : Package) → is_light_package p ≡ true → package_weight p ≤ 19999 → HasPackageEncoding p
+package_encoded p l w =
     let parts = and_parts (list_all (λ (r : RequestId × _). is_light_id r.0) p.table.records && list_all (λ (q : ℕ × ℕ). is_light_client q.0) p.table.firsts) (list_all is_light_client p.table.gone) l in
-    let front = and_parts (list_all (λ (r : RequestId × _). is_light_id r.0) p.table.records) (list_all (λ (q : ℕ × ℕ). is_light_client q.0) p.table.firsts) parts.0 in
+    let prefix = and_parts (list_all (λ (r : RequestId × _). is_light_id r.0) p.table.records) (list_all (λ (q : ℕ × ℕ). is_light_client q.0) p.table.firsts) parts.0 in
     record {
       pairs = omega arith;
       table = record {
         records = omega arith;
-        firsts = λ s. omega (arith, few_clients p.table.firsts s (all_each _ _ front.1));
+        firsts = λ s. omega (arith, few_clients p.table.firsts s (all_each _ _ prefix.1));
         gone = λ s. omega (arith, few_keys p.table.gone s (all_each _ _ parts.1));
       };
     }
 
-entry_spelled : (e : Entry) → is_light_entry e ≡ true → entry_weight e ≤ 19999 → HasSpelling e
-entry_spelled (Op r acknowledge) l w = tt
-entry_spelled (Take migration taken) l w = package_spelled taken l (omega arith)
-entry_spelled (Give migration given) l w = package_spelled given l (omega arith)
-entry_spelled (Expire client) l w = tt
+entry_encoded : (e : Entry) → is_light_entry e ≡ true → entry_weight e ≤ 19999 → HasEncoding e
+entry_encoded (Op r acknowledge) l w = tt
+entry_encoded (Take migration taken) l w = package_encoded taken l (omega arith)
+entry_encoded (Give migration given) l w = package_encoded given l (omega arith)
+entry_encoded (Expire client) l w = tt
 
-entries_spelled : (es : List Entry) → Each (λ e. is_light_entry e ≡ true) es → entries_weight es ≤ 19999 → Each HasSpelling es
-entries_spelled [] l w = tt
-entries_spelled (e ∷ es) l w =
+entries_encoded : (es : List Entry) → Each (λ e. is_light_entry e ≡ true) es → entries_weight es ≤ 19999 → Each HasEncoding es
+entries_encoded [] l w = tt
+entries_encoded (e ∷ es) l w =
     let all = weights-cons entry_weight e es in
-    (entry_spelled e l.0 (omega (arith, all)), entries_spelled es l.1 (omega (arith, all)))
+    (entry_encoded e l.0 (omega (arith, all)), entries_encoded es l.1 (omega (arith, all)))
 
 entry_counts : (e : Entry) → 1 ≤ entry_weight e
 entry_counts (Op r acknowledge) = omega arith
@@ -66,7 +66,7 @@ entries_count [] = omega arith
 entries_count (e ∷ es) = omega (arith, weights-cons entry_weight e es, entry_counts e, entries_count es)
 
 are_entries : (es : List Entry) → list_all is_light_entry es ≡ true → entries_weight es ≤ 19999 → AreEntries es
-are_entries es l w = record { short = omega (arith, entries_count es); spelled = entries_spelled es (all_each is_light_entry es l) w }
+are_entries es l w = record { short = omega (arith, entries_count es); encoded = entries_encoded es (all_each is_light_entry es l) w }
 
 are_nodes : (ns : List NodeId) → are_light_nodes ns ≡ true → AreNodes ns
 are_nodes ns l =
@@ -112,8 +112,8 @@ has_fields (body.FrozenAnswer requests) l w = omega arith
 has_fields (body.Prepare prepare) l w =
     let lists = and_parts (are_light_nodes prepare.backups) (are_light_nodes prepare.witnesses) l in
     record { backups = are_nodes prepare.backups lists.0; witnesses = are_nodes prepare.witnesses lists.1 }
-has_fields (body.Taken parcel) l w = package_spelled parcel.package l w
-has_fields (body.GiveIn parcel) l w = package_spelled parcel.package l w
+has_fields (body.Taken parcel) l w = package_encoded parcel.package l w
+has_fields (body.GiveIn parcel) l w = package_encoded parcel.package l w
 has_fields _ l w = tt
 
 -- ---- messages

@@ -6,7 +6,7 @@ use Rattle.curp_items.specs.Format.{Input, Reading, by_tag}
 use Rattle.curp_items.specs.Items.{is_node, node}
 use Rattle.curp_msg.specs.declared.message.Message.{Message}
 use Rattle.curp_fields.specs.Fields.{body_parts, body_variants}
-use Rattle.curp_fields.specs.Spelled.{has_fields}
+use Rattle.curp_fields.specs.Encoded.{has_fields}
 use Rattle.curp_wire.specs.declared.error.FrameError.{FrameError}
 use Rattle.curp_wire.specs.declared.error.FrameError.TheVariants as error
 
@@ -31,7 +31,7 @@ pub record Frame (m : Message) (bytes : List ℕ) : Type 0 where
   pub short : length (content m) ≤ content_limit
   pub is : bytes ≡ to_be_bytes w32 (length (content m)) ++ content m
 
--- the tag, the sender, the addressee and the fields have a spelling: each node is one that there may be, and each list is
+-- the tag, the sender, the addressee and the fields have a encoding: each node is one that there may be, and each list is
 -- short enough for its count
 abbrev pub has_content : Message → Bool
 has_content m = is_node m.from && is_node m.to && has_fields m.body

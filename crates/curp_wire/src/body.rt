@@ -3,7 +3,7 @@ ghost use Rattle.std.specs.Prelude.{◌≡◌, ◌↔◌, IsTrue, OnOk};
 ghost use Rattle.curp_items.specs.Calls.{ReadsIfMemory, WritesItem};
 ghost use Rattle.curp_items.specs.Format.{by_tag};
 ghost use Rattle.curp_fields.specs.Fields.{body_parts, body_variants, last_variants, later_variants};
-ghost use Rattle.curp_fields.specs.Spelling.{HasFields};
+ghost use Rattle.curp_fields.specs.Encoding.{HasFields};
 
 use curp_base::NoMemory;
 use curp_fields::{Part, read_parts, write_parts};

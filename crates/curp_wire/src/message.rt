@@ -2,7 +2,7 @@
 ghost use Rattle.std.specs.Prelude.{◌≡◌, true, OnOk};
 ghost use Rattle.curp_items.specs.Calls.{ReadsIfMemory, WritesItem};
 ghost use Rattle.curp_wire.specs.Frame.{IsMessage, content, has_content, is_tag, read_message};
-ghost use Rattle.curp_fields.specs.Spelling.{HasContent};
+ghost use Rattle.curp_fields.specs.Encoding.{HasContent};
 
 use crate::body::{read_fields, tag_of, write_fields};
 use curp_base::NoMemory;
@@ -11,10 +11,10 @@ use curp_items::{Item, ReadError, Reader, Writer, is_node};
 use curp_msg::Message;
 use std::alloc::Global;
 
-/// Whether the tag, the sender, the addressee and the fields have a spelling.
+/// Whether the tag, the sender, the addressee and the fields have a encoding.
 pub(crate) fn has_content(message: &Message) -> bool
     ensures test { result ≡ has_content message.now }
-    ensures spelled { result ≡ true → HasContent message.now }
+    ensures encoded { result ≡ true → HasContent message.now }
 {
     is_node(&message.from) && is_node(&message.to) && has_fields(&message.body)
 }

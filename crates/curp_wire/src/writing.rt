@@ -1,7 +1,7 @@
 //! From a message to bytes.
 ghost use Rattle.std.specs.Prelude.{◌≡◌, ◌+◌, ◌≤◌, ◌-◌, ◌++◌, true, false, length, drop, Err, IfOk, OnOk};
 ghost use Rattle.std.specs.Int.{w32, to_be_bytes};
-ghost use Rattle.curp_fields.specs.Spelling.{HasContent};
+ghost use Rattle.curp_fields.specs.Encoding.{HasContent};
 ghost use Rattle.curp_wire.specs.Frame.{Frame, IsMessage, content, content_limit, has_frame};
 ghost use Rattle.curp_wire.specs.Light.{is_light};
 

@@ -1,6 +1,6 @@
 //! The words of the command line, and what they ask for.
 //!
-//! `read` is exact over `task_in`, both ways, want of memory aside: it gives the task of the words, or says that they
+//! `read` is exact over `task_in`, both ways, running out of memory aside: it gives the task of the words, or says that they
 //! are none. For `make`, `live` and `resp`, `clap`'s parser is one simple command with an argument for the word and one
 //! for each option; `make` is tried first, then `live` where the words are none of `make`, and then `resp`. That each
 //! takes exactly what `given_by` says with its options, with the same values, is proved once for any options, over what

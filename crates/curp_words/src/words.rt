@@ -20,7 +20,7 @@ use std::alloc::Global;
 /// behind `=` or as the next word. The value is a number of one to twenty decimal digits. Only `--summary`, `--history`
 /// and `--script` have no value.
 ///
-/// Want of memory may come for any words.
+/// Running out of memory may come for any words.
 pub fn read(alloc: Global, words: &[&str]) -> Result<Task, WordsError>
     ensures task { IfOk result (λ task. task_in (texts words.now) ≡ Some task) }
     ensures usage { result ≡ Err WordsError.Usage → task_in (texts words.now) ≡ None }

@@ -11,7 +11,7 @@ use curp_gather_ruled::{Ruled, RuledError, gather_ruled};
 use curp_gen::workload;
 use curp_live::live;
 use curp_msg::{Header, Step};
-use curp_seat::Gate;
+use curp_seat::Observer;
 use curp_words::LivePlan;
 use std::alloc::{AllocError, Global};
 use std::sync::Wait;
@@ -19,11 +19,11 @@ use std::thread::Threads;
 
 /// The steps of a run on threads in which the clients of a plan do their work. A run whose script is too long
 /// or too heavy is made anew.
-pub(crate) fn steps_of_run<R: Threads + Wait + Sync, G: Gate + Sync>(
+pub(crate) fn steps_of_run<R: Threads + Wait + Sync, G: Observer + Sync>(
     rt: &R,
     alloc: Global,
     plan: &LivePlan,
-    gate: &G,
+    observer: &G,
 ) -> Result<Vec<Step>, NoMemory>
     requires { IsLivePlan plan.now }
     ensures shows { IfOk result (λ steps. Shows plan.now steps.items) }
@@ -32,7 +32,7 @@ pub(crate) fn steps_of_run<R: Threads + Wait + Sync, G: Gate + Sync>(
     let header = plan.header();
     let work = work_of(alloc, plan)?;
     for _ in rt.forever() {
-        if let Some(steps) = steps_of_one(rt, alloc, plan, &header, &work, gate)? {
+        if let Some(steps) = steps_of_one(rt, alloc, plan, &header, &work, observer)? {
             return Ok(steps);
         }
     }
@@ -40,13 +40,13 @@ pub(crate) fn steps_of_run<R: Threads + Wait + Sync, G: Gate + Sync>(
 }
 
 // The steps of one run. None where its script is too long or too heavy.
-fn steps_of_one<R: Threads + Wait + Sync, G: Gate + Sync>(
+fn steps_of_one<R: Threads + Wait + Sync, G: Observer + Sync>(
     rt: &R,
     alloc: Global,
     plan: &LivePlan,
     header: &Header,
     work: &[Vec<Command>],
-    gate: &G,
+    observer: &G,
 ) -> Result<Option<Vec<Step>>, NoMemory>
     requires plan { IsLivePlan plan.now }
     requires header { header.now ≡ live_header plan.now }
@@ -56,7 +56,7 @@ fn steps_of_one<R: Threads + Wait + Sync, G: Gate + Sync>(
     ensures few { IfOk result (λ found. IfSome found (λ steps. length steps.items ≤ step_limit)) }
     ensures cause { result ≡ Ok None → HasUnplayableRun plan.now }
 {
-    let ruled = live(rt, alloc, plan, work, gate)?;
+    let ruled = live(rt, alloc, plan, work, observer)?;
     let steps = script_of(alloc, header, &ruled);
     drop(ruled);
     steps

@@ -26,7 +26,7 @@ pub(crate) fn command_at(object: &Json<'_>) -> Result<Command, LineError>
     command_of(items.ok_or(BAD_COMMAND)?)
 }
 
-// The same, so that others may share it. Only this wants memory.
+// The same, so that others may share it. Only this needs memory.
 pub(crate) fn shared_command_at(
     alloc: Global,
     object: &Json<'_>,
@@ -90,7 +90,7 @@ fn multi_of(parts: &[Json<'_>]) -> Option<Command>
     multi_put(&pairs[..count])
 }
 
-// The pairs that parts are go to the buffer's front. The answer is how many they are.
+// The pairs that parts are go to the buffer's prefix. The answer is how many they are.
 fn pairs_of(parts: &[Json<'_>], buffer: &mut [(Key, Value)]) -> Option<usize>
     ensures pairs { option_map (λ count. take count buffer.new) result
         ≡ option_and_then (at_most (length buffer.old)) (by_twos value_pair parts.now) }

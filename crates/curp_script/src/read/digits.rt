@@ -24,7 +24,7 @@ fn byte_of(high: u8, low: u8) -> Option<u8>
     Some(16 * high + low)
 }
 
-// The bytes that a text of digits is go to the buffer's front. The answer is how many they are.
+// The bytes that a text of digits is go to the buffer's prefix. The answer is how many they are.
 pub(crate) fn decode(text: &str, buffer: &mut [u8]) -> Option<usize>
     ensures bytes { option_map (λ len. take len buffer.new) result
         ≡ option_and_then (at_most (length buffer.old)) (bytes_of text.now) }

@@ -1,5 +1,5 @@
 use Rattle.std.proofs.Common.{arith}
-use Rattle.curp_items.proofs.Fronts.{are_bytes}
+use Rattle.curp_items.proofs.Prefixes.{are_bytes}
 use Rattle.curp_batches.proofs.Encodings.{name_found, name_not}
 use Rattle.curp_batches.proofs.arrivals.name_at.Goals as goal
 

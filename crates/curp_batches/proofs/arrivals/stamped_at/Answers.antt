@@ -1,5 +1,5 @@
 use Rattle.std.proofs.Common.{arith}
-use Rattle.curp_items.proofs.Fronts.{are_bytes}
+use Rattle.curp_items.proofs.Prefixes.{are_bytes}
 use Rattle.curp_batches.proofs.Encodings.{stamped_found, stamped_not}
 use Rattle.curp_batches.proofs.arrivals.stamped_at.Goals as goal
 

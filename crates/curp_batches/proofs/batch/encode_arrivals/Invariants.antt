@@ -6,6 +6,6 @@ use Rattle.curp_batches.proofs.batch.encode_arrivals.Given as goal
 
 abbrev pub invariant-loop-arrived : goal.invariant-loop-arrived
 invariant-loop-arrived l = record {
-  written : l.out ≡ record { front = []; text = arrivals_of (take l.arrived-index l.batch) };
+  written : l.out ≡ record { prefix = []; text = arrivals_of (take l.arrived-index l.batch) };
   fits : Each arrival.Fits (take l.arrived-index l.batch);
 }

@@ -14,7 +14,7 @@ pub loop-at-preserved : goal.loop-at-preserved
 loop-at-preserved c =
     let at = c.loop-at.at in
     let log = c.args.log.now.entries in
-    let t = c.args.tenure in
+    let t = c.args.term in
     let old = c.loop-at.marks.marks in
     let rest : List Mark = op_marks t.master t.part t.epoch (at + 1) (drop (at + 1) log) in
     let within : at < length log = omega (arith, c.loop-at-test.true, c.len-at-end.ensures.value) in

@@ -5,8 +5,8 @@ use Rattle.curp_cluster.proofs.marks.add_ops.Given as goal
 -- the marks so far and those of the entries that are left are all of them, and there is room
 abbrev pub invariant-loop-at : goal.invariant-loop-at
 invariant-loop-at l = record {
-  marks : l.marks.marks ++ op_marks l.tenure.master l.tenure.part l.tenure.epoch l.at (drop l.at l.log.entries)
-      ≡ l.fn.marks.marks ++ op_marks l.tenure.master l.tenure.part l.tenure.epoch l.index (drop l.index l.log.entries);
+  marks : l.marks.marks ++ op_marks l.term.master l.term.part l.term.epoch l.at (drop l.at l.log.entries)
+      ≡ l.fn.marks.marks ++ op_marks l.term.master l.term.part l.term.epoch l.index (drop l.index l.log.entries);
   room : length (drop l.at l.log.entries) ≤ l.marks.spare;
   ready : length (drop l.at l.log.entries) ≤ l.standby;
   spare : l.fn.marks.spare + length (drop l.at l.log.entries) ≤ l.marks.spare + length (drop l.index l.log.entries);

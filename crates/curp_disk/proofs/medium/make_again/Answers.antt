@@ -1,6 +1,6 @@
 use Rattle.std.proofs.Common.{◌+◌, length, ap, refl, arith}
 use Rattle.curp_disk.specs.Calls.{seen_after}
-use Rattle.curp_disk.proofs.Playing.{made_more, front_shorter}
+use Rattle.curp_disk.proofs.Playing.{made_more, prefix_shorter}
 use Rattle.curp_disk.proofs.medium.make_again.Goals as goal
 
 pub make_one-requires : goal.make_one-requires
@@ -10,7 +10,7 @@ make_one-requires c =
     omega (
       arith,
       ap length (made_more c.args.calls.now c.args.first.now.items l.first.items (seen_after l.first.items call) l.call-index call c.loop-call-test.true c.call-item.is l.invariant.made refl),
-      front_shorter (l.call-index + 1) c.args.calls.now c.args.first.now.items,
+      prefix_shorter (l.call-index + 1) c.args.calls.now c.args.first.now.items,
       c.requires.short,
       c.requires.room,
       l.invariant.capacity,

@@ -6,18 +6,18 @@ use Rattle.curp_durable.proofs.opening.piece_at.Goals as goal
 pub returns-in-Some-clause-ok : goal.returns-in-Some-clause-ok
 returns-in-Some-clause-ok c =
     let content = c.args.content.now in
-    let gate = c.args.gate in
+    let commit = c.args.commit in
     let len = c.args.len in
-    let so_many : gate + 5 + len - (gate + 5) ≡ len = omega arith in
+    let so_many : commit + 5 + len - (commit + 5) ≡ len = omega arith in
     let read = some_encoded (λ batch. batch.items) _ c.in-Ok.read c.in-Some.batch c.in-Some.is c.in-Ok.ensures in
-    let encodes = subst (λ (n : ℕ). IsEncoding c.in-Some.batch.items (take n (drop (gate + 5) content))) so_many read in
-    (5 + len, record_found content gate len c.requires.finds c.in-Some.batch.items encodes, omega arith)
+    let encodes = subst (λ (n : ℕ). IsEncoding c.in-Some.batch.items (take n (drop (commit + 5) content))) so_many read in
+    (5 + len, record_found content commit len c.requires.finds c.in-Some.batch.items encodes, omega arith)
 
 pub returns-in-None-clause-err : goal.returns-in-None-clause-err
 returns-in-None-clause-err c =
     let content = c.args.content.now in
-    let gate = c.args.gate in
+    let commit = c.args.commit in
     let len = c.args.len in
-    let so_many : gate + 5 + len - (gate + 5) ≡ len = omega arith in
+    let so_many : commit + 5 + len - (commit + 5) ≡ len = omega arith in
     let read = none_encoded (λ batch. batch.items) _ c.in-Ok.read c.in-None.is c.in-Ok.ensures in
-    (none_found content gate len c.requires.finds (subst (λ (n : ℕ). IsBatchIn (take n (drop (gate + 5) content)) None) so_many read), refl)
+    (none_found content commit len c.requires.finds (subst (λ (n : ℕ). IsBatchIn (take n (drop (commit + 5) content)) None) so_many read), refl)

@@ -80,8 +80,8 @@ returns-in-Err-clause-end g c tells is =
     let disk = kind D.tells D.seen D.may_leave D.moment D.left_since D.faults in
     nothing_behind c.turn.new.parcels.ahead _ (none_left machine disk c.args.role _ _ _ (ran_to machine disk c.args.role _ _ _ _ c.batches.invariant c.in-Err.ensures.breaks) is tells)
 
-pub returns-in-Err-clause-front : goal.returns-in-Err-clause-front
-returns-in-Err-clause-front g c =
+pub returns-in-Err-clause-prefix : goal.returns-in-Err-clause-prefix
+returns-in-Err-clause-prefix g c =
     let machine = g.N.Core.machine in
     let D = g.D.Disk in
     let disk = kind D.tells D.seen D.may_leave D.moment D.left_since D.faults in
@@ -96,8 +96,8 @@ returns-in-Err-clause-front g c =
 
 -- ---- where no number was left
 
-pub returns-clause-front : goal.returns-clause-front
-returns-clause-front g c =
+pub returns-clause-prefix : goal.returns-clause-prefix
+returns-clause-prefix g c =
     let machine = g.N.Core.machine in
     let D = g.D.Disk in
     let disk = kind D.tells D.seen D.may_leave D.moment D.left_since D.faults in

@@ -1,4 +1,4 @@
--- What came so far stands at the front of the bytes.
+-- What came so far stands at the prefix of the bytes.
 use Rattle.std.proofs.Common.{ℕ, List, ◌++◌, ◌≤◌, length}
 use Rattle.curp_base.specs.Words.{Each}
 use Rattle.curp_filter.specs.Coming.{Comes, arriving}

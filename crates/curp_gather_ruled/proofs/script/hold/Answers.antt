@@ -1,7 +1,7 @@
 use Rattle.std.proofs.Common.{◌≡◌, ◌∙◌, List, subst, sym, ap}
 use Rattle.curp_turns.specs.Turns.{AreApart, Journal}
 use Rattle.curp_merge.specs.Held.{AllHeld}
-use Rattle.curp_fronts.specs.Ruled.{AreRuled}
+use Rattle.curp_prefixes.specs.Ruled.{AreRuled}
 use Rattle.curp_gather.specs.Journals.{journals_of}
 use Rattle.curp_gather.specs.Replays.{AreReplayed}
 use Rattle.curp_gather.specs.declared.journals.Journals.{Journals}

@@ -1,6 +1,6 @@
 use Rattle.std.proofs.Common.{rules, arith, length-drop}
 use Rattle.std.proofs.lemmas.List.{take_rest}
-use Rattle.curp_io.proofs.Streams.{put_more, holds_front}
+use Rattle.curp_io.proofs.Streams.{put_more, holds_prefix}
 use Rattle.curp_io.proofs.write.write_piece.Goals as goal
 
 pub pieces-preserved : goal.pieces-preserved
@@ -12,7 +12,7 @@ pieces-preserved g c = record {
 }
 
 pub returns-in-Failed-clause-bytes : goal.returns-in-Failed-clause-bytes
-returns-in-Failed-clause-bytes g c = λ told. holds_front _ _ _ c.args.bytes.now c.pieces.done (c.pieces.invariant.bytes told) (c.in-Failed.ensures.bytes (c.pieces.invariant.tells told))
+returns-in-Failed-clause-bytes g c = λ told. holds_prefix _ _ _ c.args.bytes.now c.pieces.done (c.pieces.invariant.bytes told) (c.in-Failed.ensures.bytes (c.pieces.invariant.tells told))
 
 pub returns-in-NoMemory-clause-bytes : goal.returns-in-NoMemory-clause-bytes
-returns-in-NoMemory-clause-bytes g c = λ told. holds_front _ _ _ c.args.bytes.now c.pieces.done (c.pieces.invariant.bytes told) (c.in-NoMemory.ensures.bytes (c.pieces.invariant.tells told))
+returns-in-NoMemory-clause-bytes g c = λ told. holds_prefix _ _ _ c.args.bytes.now c.pieces.done (c.pieces.invariant.bytes told) (c.in-NoMemory.ensures.bytes (c.pieces.invariant.tells told))

@@ -7,6 +7,6 @@ use Rattle.curp_items.proofs.list.write_each.Given as goal
 -- the items so far are written
 abbrev pub invariant-loop-item : goal.invariant-loop-item
 invariant-loop-item g l = record {
-  written : l.out ≡ record { front = l.fn.out.front; text = l.fn.out.text ++ flat_map g.T.Item.format.of (take l.item-index l.items) };
+  written : l.out ≡ record { prefix = l.fn.out.prefix; text = l.fn.out.text ++ flat_map g.T.Item.format.of (take l.item-index l.items) };
   fits : Each g.T.Item.format.Fits (take l.item-index l.items);
 }

@@ -1,6 +1,6 @@
 use Rattle.std.proofs.Common.{Err, ap, arith, refl}
 use Rattle.std.proofs.lemmas.Result.{err_from_is_err_and}
-use Rattle.curp_items.proofs.Fronts.{are_bytes, begins_from, not_read, read_same}
+use Rattle.curp_items.proofs.Prefixes.{are_bytes, begins_from, not_read, read_same}
 use Rattle.curp_items.proofs.packed.read_entry.Goals as goal
 
 pub returns-in_err-entry-clause-only : goal.returns-in_err-entry-clause-only

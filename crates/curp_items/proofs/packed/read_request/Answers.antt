@@ -1,5 +1,5 @@
 use Rattle.std.proofs.Common.{◌∙◌, arith}
-use Rattle.curp_items.proofs.Fronts.{are_bytes, found_of, request_found, request_is}
+use Rattle.curp_items.proofs.Prefixes.{are_bytes, found_of, request_found, request_is}
 use Rattle.curp_items.proofs.packed.read_request.Goals as goal
 
 pub returns-clause-found : goal.returns-clause-found

@@ -5,4 +5,4 @@ pub returns : goal.returns
 returns g c title opening held answered left settled leaves =
     let D = g.D.Disk in
     let d = c.args.durable.now in
-    crashes g.N.Core.machine title opening D.seen D.may_leave d.disk d.stand d.gate held answered left settled leaves
+    crashes g.N.Core.machine title opening D.seen D.may_leave d.disk d.stand d.commit held answered left settled leaves

@@ -7,4 +7,4 @@ use Rattle.curp_manage.proofs.managing.formatted.Goals as goal
 pub returns-in-Ok-clause-journal : goal.returns-in-Ok-clause-journal
 returns-in-Ok-clause-journal c =
     let is = title_is c.args.header.now c.manager.result c.title_of-title.result c.title_of-title.ensures c.manager.ensures in
-    subst (λ (t : List ℕ). HoldsUpTo (seen_of c.format.new.disk.played) t [] (length t)) is (c.in-Ok.ensures.gate refl)
+    subst (λ (t : List ℕ). HoldsUpTo (seen_of c.format.new.disk.played) t [] (length t)) is (c.in-Ok.ensures.commit refl)

@@ -1,6 +1,6 @@
 use Rattle.std.proofs.Common.{List, ℕ, refl, sym, subst}
 use Rattle.curp_disk.specs.Calls.{seen_of}
-use Rattle.curp_durable.proofs.Settling.{some_gate}
+use Rattle.curp_durable.proofs.Settling.{some_commit}
 use Rattle.curp_durable.specs.Journal.{HoldsUpTo, IsSettled}
 use Rattle.curp_durable.specs.Stopping.{StopLeaves, stop_seen}
 use Rattle.curp_manage.proofs.Headers.{title_is}
@@ -15,7 +15,7 @@ unreachable-requires-in-NotFormatted c =
     let journal = c.requires.journal in
     let seen = seen_of c.args.disk.played in
     let is = title_is c.args.header.now c.manager.result c.title_of-title.result c.title_of-title.ensures c.manager.ensures in
-    let holds = some_gate seen c.title_of-title.result journal.0 journal.1 (subst (λ (t : List ℕ). HoldsUpTo seen t journal.0 journal.1) (sym is) journal.2) in
+    let holds = some_commit seen c.title_of-title.result journal.0 journal.1 (subst (λ (t : List ℕ). HoldsUpTo seen t journal.0 journal.1) (sym is) journal.2) in
     absurd (rw c.in-NotFormatted.is at c.in-Err.ensures.journal_err journal.0 refl holds)
 
 pub unreachable-requires-in-Damaged : goal.unreachable-requires-in-Damaged
@@ -23,23 +23,23 @@ unreachable-requires-in-Damaged c =
     let journal = c.requires.journal in
     let seen = seen_of c.args.disk.played in
     let is = title_is c.args.header.now c.manager.result c.title_of-title.result c.title_of-title.ensures c.manager.ensures in
-    let holds = some_gate seen c.title_of-title.result journal.0 journal.1 (subst (λ (t : List ℕ). HoldsUpTo seen t journal.0 journal.1) (sym is) journal.2) in
+    let holds = some_commit seen c.title_of-title.result journal.0 journal.1 (subst (λ (t : List ℕ). HoldsUpTo seen t journal.0 journal.1) (sym is) journal.2) in
     absurd (rw c.in-Damaged.is at c.in-Err.ensures.journal_err journal.0 refl holds)
 
 pub returns-in-Ok : goal.returns-in-Ok
-returns-in-Ok c = λ inputs gate journal.
+returns-in-Ok c = λ inputs commit journal.
     let h = c.args.header.now in
     let d = c.in-Ok.manager in
     let seen = seen_of c.args.disk.played in
     let title = c.title_of-title.result in
     let is = title_is h c.manager.result title c.title_of-title.ensures c.manager.ensures in
-    let at = subst (λ (t : List ℕ). HoldsUpTo seen t inputs gate) (sym is) journal in
-    let settled = c.in-Ok.ensures.journal inputs refl (some_gate seen title inputs gate at) in
-    let of_node = subst (λ (n : ManagerState). IsSettled manager_machine stop_seen StopLeaves d.disk d.stand d.gate title n inputs) c.in_ok-node.ensures settled in
+    let at = subst (λ (t : List ℕ). HoldsUpTo seen t inputs commit) (sym is) journal in
+    let settled = c.in-Ok.ensures.journal inputs refl (some_commit seen title inputs commit at) in
+    let of_node = subst (λ (n : ManagerState). IsSettled manager_machine stop_seen StopLeaves d.disk d.stand d.commit title n inputs) c.in_ok-node.ensures settled in
     record {
       fresh = c.in-Ok.ensures.fresh;
       limit = c.in-Ok.ensures.limit;
-      keeps = subst (λ (t : List ℕ). IsSettled manager_machine stop_seen StopLeaves d.disk d.stand d.gate t (opening_manager (shape_of h)) inputs) is of_node;
-      gate_is = c.in-Ok.ensures.gate inputs gate refl at;
+      keeps = subst (λ (t : List ℕ). IsSettled manager_machine stop_seen StopLeaves d.disk d.stand d.commit t (opening_manager (shape_of h)) inputs) is of_node;
+      commit_is = c.in-Ok.ensures.commit inputs commit refl at;
       disarmed = c.in-Ok.ensures.sound c.requires.disarmed;
     }

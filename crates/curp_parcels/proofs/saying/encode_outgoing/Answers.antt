@@ -10,7 +10,7 @@ pub parcel_of-requires : goal.parcel_of-requires
 parcel_of-requires c =
     let text = outgoing.of c.args.said.now in
     let zeros = c.in_ok-vec.field-0.items in
-    let are = c.into_vec.ensures ∙ ap (λ (w : Written). w.front ++ w.text) (c.in_ok-write.ensures.writes ∙ ap (λ (w : Written). behind w text) c.new-out.ensures) in
+    let are = c.into_vec.ensures ∙ ap (λ (w : Written). w.prefix ++ w.text) (c.in_ok-write.ensures.writes ∙ ap (λ (w : Written). behind w text) c.new-out.ensures) in
     let four : length zeros ≡ 4 = omega (arith, c.in_ok-vec.ensures.len, c.in_ok-vec.field-0.ok.0) in
     let room = room_before text zeros c.into_vec.result.items are four in
     omega (arith, room.long)
@@ -19,7 +19,7 @@ pub returns-in-Some-clause-parcel : goal.returns-in-Some-clause-parcel
 returns-in-Some-clause-parcel c =
     let text = outgoing.of c.args.said.now in
     let zeros = c.in_ok-vec.field-0.items in
-    let are = c.into_vec.ensures ∙ ap (λ (w : Written). w.front ++ w.text) (c.in_ok-write.ensures.writes ∙ ap (λ (w : Written). behind w text) c.new-out.ensures) in
+    let are = c.into_vec.ensures ∙ ap (λ (w : Written). w.prefix ++ w.text) (c.in_ok-write.ensures.writes ∙ ap (λ (w : Written). behind w text) c.new-out.ensures) in
     let four : length zeros ≡ 4 = omega (arith, c.in_ok-vec.ensures.len, c.in_ok-vec.field-0.ok.0) in
     let room = room_before text zeros c.into_vec.result.items are four in
     made_parcel outgoing c.args.said.now c.into_vec.result.items c.in-Some.parcel.items c.in_ok-write.ensures.fits room c.in-Some.ensures.short c.in-Some.ensures.parcel
@@ -28,7 +28,7 @@ pub returns-in-None-clause-none : goal.returns-in-None-clause-none
 returns-in-None-clause-none c = λ none.
     let text = outgoing.of c.args.said.now in
     let zeros = c.in_ok-vec.field-0.items in
-    let are = c.into_vec.ensures ∙ ap (λ (w : Written). w.front ++ w.text) (c.in_ok-write.ensures.writes ∙ ap (λ (w : Written). behind w text) c.new-out.ensures) in
+    let are = c.into_vec.ensures ∙ ap (λ (w : Written). w.prefix ++ w.text) (c.in_ok-write.ensures.writes ∙ ap (λ (w : Written). behind w text) c.new-out.ensures) in
     let four : length zeros ≡ 4 = omega (arith, c.in_ok-vec.ensures.len, c.in_ok-vec.field-0.ok.0) in
     let room = room_before text zeros c.into_vec.result.items are four in
     too_long_said c.args.said.now c.in_ok-write.ensures.fits (omega (arith, room.long, c.in-None.ensures.long))

@@ -1,5 +1,5 @@
 use Rattle.std.proofs.Common.{arith}
-use Rattle.curp_items.proofs.Fronts.{are_bytes}
+use Rattle.curp_items.proofs.Prefixes.{are_bytes}
 use Rattle.curp_parcels.proofs.Found.{no_plain_so, plain_there_so}
 use Rattle.curp_parcels.proofs.saying.plain_in.Goals as goal
 

@@ -22,14 +22,14 @@ returns-clause-claim g c =
     (c.orders_are_short.ensures w.history (order w) c.order.ensures.is_order) c.printed_claims_are_read.ensures)
     c.write_order.ensures.in_range
 
-pub returns-in_err-write_events-clause-front : goal.returns-in_err-write_events-clause-front
-returns-in_err-write_events-clause-front g c = λ tells.
+pub returns-in_err-write_events-clause-prefix : goal.returns-in_err-write_events-clause-prefix
+returns-in_err-write_events-clause-prefix g c = λ tells.
     let w = c.args.world.now in
     let old = g.K.Sink.held c.args.sink.now in
     let new = g.K.Sink.held c.write_events.new.sink in
     let events = c.events.ensures ∙ c.history.ensures.events in
     first_of_two old new (history_lines w.history) (order_lines (order w))
-    (subst (λ (es : List seen.Event). HoldsPart old new (history_lines es)) events (c.write_events.ensures.front tells))
+    (subst (λ (es : List seen.Event). HoldsPart old new (history_lines es)) events (c.write_events.ensures.prefix tells))
 
 pub returns-clause-wrote : goal.returns-clause-wrote
 returns-clause-wrote g c = λ tells.
@@ -43,8 +43,8 @@ returns-clause-wrote g c = λ tells.
     (c.in_ok-write_events.ensures.wrote tells ∙ ap (λ (es : List seen.Event). old ++ history_lines es) events)
     (subst (λ (xs : List Asked). OnOk c.write_order.result (new ≡ mid ++ order_lines xs)) asked (c.write_order.ensures.wrote (c.write_events.ensures.tells tells)))
 
-pub returns-clause-front : goal.returns-clause-front
-returns-clause-front g c = λ tells.
+pub returns-clause-prefix : goal.returns-clause-prefix
+returns-clause-prefix g c = λ tells.
     let w = c.args.world.now in
     let old = g.K.Sink.held c.args.sink.now in
     let mid = g.K.Sink.held c.write_events.new.sink in
@@ -53,4 +53,4 @@ returns-clause-front g c = λ tells.
     let asked = ap asked_of (c.deref.ensures.value ∙ c.in_ok-order.ensures.list) ∙ asked_of_order w in
     second_of_two old mid new (history_lines w.history) (order_lines (order w))
     (c.in_ok-write_events.ensures.wrote tells ∙ ap (λ (es : List seen.Event). old ++ history_lines es) events)
-    (subst (λ (xs : List Asked). HoldsPart mid new (order_lines xs)) asked (c.write_order.ensures.front (c.write_events.ensures.tells tells)))
+    (subst (λ (xs : List Asked). HoldsPart mid new (order_lines xs)) asked (c.write_order.ensures.prefix (c.write_events.ensures.tells tells)))

@@ -5,12 +5,12 @@ use Rattle.curp_law_print.specs.EventRanges.{EventInRange}
 use Rattle.curp_script.specs.EventTexts.{event_line, history_lines}
 use Rattle.curp_script.specs.declared.event.EventLine.TheVariants.{Event}
 use Rattle.curp_play.proofs.Claims.{next_event, no_event_left}
-use Rattle.curp_runner.proofs.Pieces.{goes_further, is_whole, still_front}
+use Rattle.curp_runner.proofs.Pieces.{goes_further, is_whole, still_prefix}
 use Rattle.curp_runner.proofs.SoFar.{SoFar}
 use Rattle.curp_play.proofs.history.write_events.Goals as goal
 
-pub returns-in_err-write_line-clause-front : goal.returns-in_err-write_line-clause-front
-returns-in_err-write_line-clause-front g c = λ tells.
+pub returns-in_err-write_line-clause-prefix : goal.returns-in_err-write_line-clause-prefix
+returns-in_err-write_line-clause-prefix g c = λ tells.
     let events = c.args.events.now in
     let k = c.loop-kept.kept-index in
     let e = c.kept-item.result in
@@ -19,9 +19,9 @@ returns-in_err-write_line-clause-front g c = λ tells.
     let now = g.K.Sink.held c.loop-kept.sink in
     let due : SoFar text old now (event_line (Event e) ++ history_lines (drop (k + 1) events)) =
     subst (λ d. SoFar text old now d) (next_event events k e c.loop-kept-test.true c.kept-item.is) (c.loop-kept.invariant.written tells) in
-    still_front text old now (g.K.Sink.held c.write_line.new.sink) (event_line (Event e)) (history_lines (drop (k + 1) events)) due
+    still_prefix text old now (g.K.Sink.held c.write_line.new.sink) (event_line (Event e)) (history_lines (drop (k + 1) events)) due
     (subst (λ x. HoldsPart now (g.K.Sink.held c.write_line.new.sink) (event_line (Event x))) c.event-event.ensures
-    (c.write_line.ensures.front (c.loop-kept.invariant.sink_tells tells)))
+    (c.write_line.ensures.prefix (c.loop-kept.invariant.sink_tells tells)))
 
 pub loop-kept-preserved : goal.loop-kept-preserved
 loop-kept-preserved g c =

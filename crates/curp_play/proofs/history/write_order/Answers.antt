@@ -5,12 +5,12 @@ use Rattle.curp_play.specs.Play.{asked_of}
 use Rattle.curp_script.specs.EventTexts.{event_line, order_lines}
 use Rattle.curp_script.specs.declared.event.EventLine.TheVariants.{Place}
 use Rattle.curp_play.proofs.Claims.{next_place, next_place_too, no_place_left}
-use Rattle.curp_runner.proofs.Pieces.{goes_further, is_whole, still_front}
+use Rattle.curp_runner.proofs.Pieces.{goes_further, is_whole, still_prefix}
 use Rattle.curp_runner.proofs.SoFar.{SoFar}
 use Rattle.curp_play.proofs.history.write_order.Goals as goal
 
-pub returns-in_err-write_line-clause-front : goal.returns-in_err-write_line-clause-front
-returns-in_err-write_line-clause-front g c = λ tells.
+pub returns-in_err-write_line-clause-prefix : goal.returns-in_err-write_line-clause-prefix
+returns-in_err-write_line-clause-prefix g c = λ tells.
     let order = c.args.order.now in
     let k = c.loop-id.id-index in
     let x = c.loop-id-item.result in
@@ -19,9 +19,9 @@ returns-in_err-write_line-clause-front g c = λ tells.
     let now = g.K.Sink.held c.loop-id.sink in
     let due : SoFar text old now (event_line (Place x.0 x.1) ++ order_lines (asked_of (drop (k + 1) order))) =
     subst (λ d. SoFar text old now d) (next_place order k x c.loop-id-test.true c.loop-id-item.is) (c.loop-id.invariant.written tells) in
-    still_front text old now (g.K.Sink.held c.write_line.new.sink) (event_line (Place x.0 x.1)) (order_lines (asked_of (drop (k + 1) order))) due
+    still_prefix text old now (g.K.Sink.held c.write_line.new.sink) (event_line (Place x.0 x.1)) (order_lines (asked_of (drop (k + 1) order))) due
     (subst (λ command. HoldsPart now (g.K.Sink.held c.write_line.new.sink) (event_line (Place x.0 command))) c.deref-in-loop-id.ensures
-    (c.write_line.ensures.front (c.loop-id.invariant.sink_tells tells)))
+    (c.write_line.ensures.prefix (c.loop-id.invariant.sink_tells tells)))
 
 pub loop-id-preserved : goal.loop-id-preserved
 loop-id-preserved g c =

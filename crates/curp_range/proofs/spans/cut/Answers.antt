@@ -1,6 +1,6 @@
 use Rattle.std.proofs.Common.{arith}
 use Rattle.curp_range.specs.Places.{IsSpanOf}
-use Rattle.curp_range.proofs.Cuts.{IsCut, cut_whole, cut_back, cut_front, cut_middle}
+use Rattle.curp_range.proofs.Cuts.{IsCut, cut_whole, cut_back, cut_prefix, cut_middle}
 use Rattle.curp_range.proofs.spans.cut.Goals as goal
 
 pub returns-in-false-false : goal.returns-in-false-false
@@ -21,7 +21,7 @@ pub returns-in-false-true : goal.returns-in-false-true
 returns-in-false-true c =
     let place : IsSpanOf c.args.spans.now.items c.args.lo c.args.hi c.span_of-at.result = rw (← c.deref.ensures.value) c.span_of-at.ensures in
     let left : IsCut c.args.spans.now.items c.args.lo c.args.hi c.set-in-false-true.new.self.items =
-    rw c.set-in-false-true.ensures.items (cut_front _ _ _ _ _ c.requires.ascend c.requires.ordered place c.index.ensures c.in-false-true.is-0 c.in-false-true.is-1) in
+    rw c.set-in-false-true.ensures.items (cut_prefix _ _ _ _ _ c.requires.ascend c.requires.ordered place c.index.ensures c.in-false-true.is-0 c.in-false-true.is-1) in
     record { ascend = left.ascend; owned = left.owned; spare = omega arith }
 
 middle : (c : goal.After-insert) → IsCut c.args.spans.now.items c.args.lo c.args.hi c.insert.new.self.items

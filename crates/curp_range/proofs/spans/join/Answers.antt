@@ -9,9 +9,9 @@ pub met-preserved : goal.met-preserved
 met-preserved c =
     let within : c.ended_before-at.result < length c.met.spans.items = omega arith in
     let read : c.index.result.now ≡ c.remove-met.result = c.index.ensures ∙ get_or_default _ _ _ _ within ∙ sym c.remove-met.ensures.value in
-    let front : c.remove-met.result.0 ≤ c.met.last + 1 = omega (arith, ap (λ s. s.0) read) in
+    let prefix : c.remove-met.result.0 ≤ c.met.last + 1 = omega (arith, ap (λ s. s.0) read) in
     record {
-      joining = rw (c.remove-met.ensures.items, c.min-first.ensures, c.max-last.ensures) (joining_more _ _ _ _ _ _ _ _ c.met.invariant.joining within c.remove-met.ensures.value front);
+      joining = rw (c.remove-met.ensures.items, c.min-first.ensures, c.max-last.ensures) (joining_more _ _ _ _ _ _ _ _ c.met.invariant.joining within c.remove-met.ensures.value prefix);
       spare = omega arith;
     }
 

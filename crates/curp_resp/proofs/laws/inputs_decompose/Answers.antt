@@ -1,4 +1,4 @@
-use Rattle.curp_resp.proofs.Fronts.{decomposition, one_decomposition}
+use Rattle.curp_resp.proofs.Prefixes.{decomposition, one_decomposition}
 use Rattle.curp_resp.proofs.laws.inputs_decompose.Goals as goal
 
 pub returns-clause-some : goal.returns-clause-some

@@ -1,4 +1,4 @@
-use Rattle.curp_resp.proofs.Fronts.{one_request}
+use Rattle.curp_resp.proofs.Prefixes.{one_request}
 use Rattle.curp_resp.proofs.laws.requests_are_prefix_free.Goals as goal
 
 pub returns : goal.returns

@@ -1,4 +1,4 @@
-use Rattle.curp_resp.proofs.Fronts.{breaks_off, one_place}
+use Rattle.curp_resp.proofs.Prefixes.{breaks_off, one_place}
 use Rattle.curp_resp.proofs.laws.rests_break_off.Goals as goal
 
 pub returns-clause-some : goal.returns-clause-some

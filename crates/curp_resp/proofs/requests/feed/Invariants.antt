@@ -6,7 +6,7 @@ use Rattle.curp_resp.proofs.requests.feed.Given as goal
 abbrev pub invariant-bytes : goal.invariant-bytes
 invariant-bytes l = record {
   read : read_on l.fn.window.bytes l.fn.reading ≡ read_on l.window.bytes l.reading;
-  passes : (front : List ℕ) × Passes l.fn.window l.window front;
+  passes : (prefix : List ℕ) × Passes l.fn.window l.window prefix;
 }
 
 abbrev pub decreases-bytes : goal.decreases-bytes

@@ -3,8 +3,8 @@ use Rattle.curp_io.specs.declared.source.Taken.TheVariants as taken
 use Rattle.curp_resp.specs.Feeds.{Feeds, read_on}
 use Rattle.curp_resp.specs.Input.{StandsFirst}
 use Rattle.curp_resp.specs.declared.reading.Progress.TheVariants as progress
-use Rattle.curp_resp.proofs.Inwards.{Inwards, ends_fresh, ends_inside, gives_request, inwards_filled, inwards_more, loses_front, lower_more, no_bytes, no_more_ahead, refuses_bytes, untouched}
-use Rattle.curp_resp.proofs.Fronts.{some_ahead}
+use Rattle.curp_resp.proofs.Inwards.{Inwards, ends_fresh, ends_inside, gives_request, inwards_filled, inwards_more, loses_prefix, lower_more, no_bytes, no_more_ahead, refuses_bytes, untouched}
+use Rattle.curp_resp.proofs.Prefixes.{some_ahead}
 use Rattle.curp_resp.proofs.requests.find_request.Given as given
 use Rattle.curp_resp.proofs.requests.find_request.Goals as goal
 use Rattle.curp_resp.proofs.requests.find_request.Goals.{After-fill}
@@ -22,7 +22,7 @@ waits g c arguments rest first =
     (untouched c.args.window.now c.pieces.window c.fill.new.self c.args.source.now c.pieces.source c.fill.new.source arguments rest first at.0 at.1 c.fill.ensures.same).1
 
 pub returns-in-Failed-clause-bytes : goal.returns-in-Failed-clause-bytes
-returns-in-Failed-clause-bytes g c = λ told. loses_front (g.S.Source.tells c.args.source.now) c.args.window.now c.fill.new.self (g.S.Source.left c.args.source.now) (g.S.Source.left c.fill.new.source) c.pieces.reading (stands g (goal.at.returns-in-Failed-clause-bytes g c).After-fill) told
+returns-in-Failed-clause-bytes g c = λ told. loses_prefix (g.S.Source.tells c.args.source.now) c.args.window.now c.fill.new.self (g.S.Source.left c.args.source.now) (g.S.Source.left c.fill.new.source) c.pieces.reading (stands g (goal.at.returns-in-Failed-clause-bytes g c).After-fill) told
 
 pub returns-in-Failed-clause-waits : goal.returns-in-Failed-clause-waits
 returns-in-Failed-clause-waits g c = waits g (goal.at.returns-in-Failed-clause-waits g c).After-fill

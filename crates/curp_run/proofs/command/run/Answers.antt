@@ -16,7 +16,7 @@ returns-in-Ok-Play-Steps-clause-ran g c =
     let asks : asked c.args.arguments.now ≡ Some (Play Steps) = search rules in
     record {
       did = subst (λ (task : Option Task). DoesAsked task took wrote c.play_script.result) (sym asks) (record {
-        does = record { ends = did.ends; end = did.end; complete = did.complete; text = did.wrote; front = did.front };
+        does = record { ends = did.ends; end = did.end; complete = did.complete; text = did.wrote; prefix = did.prefix };
         at_fault = did.at_fault;
         passed_on = λ is. ⊎_elim (λ flushed. inl flushed) (λ same. inr (ap g.K.Sink.held same)) (did.passed_on is);
         order = did.order;
@@ -37,7 +37,7 @@ returns-in-Ok-Play-History-clause-ran g c =
     let asks : asked c.args.arguments.now ≡ Some (Play History) = search rules in
     record {
       did = subst (λ (task : Option Task). DoesAsked task took wrote c.play_history.result) (sym asks) (record {
-        does = record { ends = did.ends; end = did.end; complete = did.complete; text = did.wrote; front = did.front };
+        does = record { ends = did.ends; end = did.end; complete = did.complete; text = did.wrote; prefix = did.prefix };
         order = did.claim;
       });
       usage = λ is. absurd (did.never_usage is);
@@ -56,7 +56,7 @@ returns-in-Ok-Manage-clause-ran g c =
     let asks : asked c.args.arguments.now ≡ Some Manage = search rules in
     record {
       did = subst (λ (task : Option Task). DoesAsked task took wrote c.manage_orders.result) (sym asks) (record {
-        does = record { ends = did.ends; end = did.end; complete = did.complete; text = did.wrote; front = did.front };
+        does = record { ends = did.ends; end = did.end; complete = did.complete; text = did.wrote; prefix = did.prefix };
         at_fault = did.at_fault;
         passed_on = λ is. ⊎_elim (λ flushed. inl flushed) (λ same. inr (ap g.K.Sink.held same)) (did.passed_on is);
       });
@@ -79,7 +79,7 @@ returns-in-Ok-Live-clause-ran g c =
         of_making = did.of_making;
         complete = did.complete;
         text = did.wrote;
-        front = did.front;
+        prefix = did.prefix;
       });
       usage = λ is. absurd (making_never_asks c.live_script.result did.of_making is);
       flushed = λ some cut. did.flushed (making_whole c.live_script.result did.of_making cut);

@@ -9,14 +9,14 @@ use Rattle.curp_runner.proofs.Pieces.{both_if_ok, first_of_two, second_of_two}
 use Rattle.curp_run.proofs.Steps.{made_is_read, printed_header}
 use Rattle.curp_run.proofs.script.write_begun.Goals as goal
 
-pub returns-in_err-write_line-clause-front : goal.returns-in_err-write_line-clause-front
-returns-in_err-write_line-clause-front g c = λ tells.
+pub returns-in_err-write_line-clause-prefix : goal.returns-in_err-write_line-clause-prefix
+returns-in_err-write_line-clause-prefix g c = λ tells.
     let old = g.K.Sink.held c.args.sink.now in
     let new = g.K.Sink.held c.write_line.new.sink in
     let header = c.header.ensures.header ∙ ap (λ m. header_of m.plan) c.requires.begun in
     let line = printed_header c.header.result (header_of c.args.plan.now) c.in_ok-header.header.items c.in_ok-header.ensures.text header in
     first_of_two old new (header_line (header_of c.args.plan.now)) (lines_text (made_steps c.args.plan.now))
-    (subst (λ l. HoldsPart old new l) line (c.write_line.ensures.front tells))
+    (subst (λ l. HoldsPart old new l) line (c.write_line.ensures.prefix tells))
 
 pub returns-clause-wrote : goal.returns-clause-wrote
 returns-clause-wrote g c = λ tells.
@@ -31,8 +31,8 @@ returns-clause-wrote g c = λ tells.
     both_if_ok c.write_steps.result old mid new first (lines_text (made_steps c.args.plan.now)) wrote
     (subst (λ t. OnOk c.write_steps.result (new ≡ mid ++ t)) steps (c.write_steps.ensures.wrote (c.write_line.ensures.tells tells)))
 
-pub returns-clause-front : goal.returns-clause-front
-returns-clause-front g c = λ tells.
+pub returns-clause-prefix : goal.returns-clause-prefix
+returns-clause-prefix g c = λ tells.
     let old = g.K.Sink.held c.args.sink.now in
     let mid = g.K.Sink.held c.write_line.new.sink in
     let new = g.K.Sink.held c.write_steps.new.sink in
@@ -42,7 +42,7 @@ returns-clause-front g c = λ tells.
     let wrote : mid ≡ old ++ first = c.in_ok-write_line.ensures.wrote tells ∙ ap (λ l. old ++ l) line in
     let steps = ap (λ m. lines_text (steps_from c.args.plan.now.steps m)) c.requires.begun in
     second_of_two old mid new first (lines_text (made_steps c.args.plan.now)) wrote
-    (subst (λ t. HoldsPart mid new t) steps (c.write_steps.ensures.front (c.write_line.ensures.tells tells)))
+    (subst (λ t. HoldsPart mid new t) steps (c.write_steps.ensures.prefix (c.write_line.ensures.tells tells)))
 
 pub returns-in_err-header-clause-writing : goal.returns-in_err-header-clause-writing
 returns-in_err-header-clause-writing g c = of_memory c.from_residual.result c.from_residual.ensures.1

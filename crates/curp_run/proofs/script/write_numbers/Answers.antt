@@ -21,28 +21,28 @@ returns-clause-wrote g c = λ tells.
     let text = c.as_bytes.ensures.value ∙ (c.in_ok-text.ensures.ok ∙ ap summary_text (c.in_ok-summary.ensures ∙ ap summary_of made)) in
     subst (λ t. OnOk c.write.result (g.K.Sink.held c.write.new.sink ≡ g.K.Sink.held c.args.sink.now ++ t)) text (c.write.ensures.wrote tells)
 
-pub returns-clause-front : goal.returns-clause-front
-returns-clause-front g c = λ tells.
+pub returns-clause-prefix : goal.returns-clause-prefix
+returns-clause-prefix g c = λ tells.
     let made = sym (no_more c.loop.maker c.loop.counter c.args.count (search rules)) ∙ c.loop.invariant.leads in
     let text = c.as_bytes.ensures.value ∙ (c.in_ok-text.ensures.ok ∙ ap summary_text (c.in_ok-summary.ensures ∙ ap summary_of made)) in
-    subst (λ t. HoldsPart (g.K.Sink.held c.args.sink.now) (g.K.Sink.held c.write.new.sink) t) text (c.write.ensures.front tells)
+    subst (λ t. HoldsPart (g.K.Sink.held c.args.sink.now) (g.K.Sink.held c.write.new.sink) t) text (c.write.ensures.prefix tells)
 
-pub returns-in_err-next_step-clause-front : goal.returns-in_err-next_step-clause-front
-returns-in_err-next_step-clause-front g c = λ tells.
+pub returns-in_err-next_step-clause-prefix : goal.returns-in_err-next_step-clause-prefix
+returns-in_err-next_step-clause-prefix g c = λ tells.
     nothing (g.K.Sink.held c.args.sink.now) (summary_text (summary_of (after c.args.count c.args.maker.now)))
 
 pub returns-in_err-next_step-clause-writing : goal.returns-in_err-next_step-clause-writing
 returns-in_err-next_step-clause-writing g c = of_memory c.from_residual.result c.from_residual.ensures.1
 
-pub returns-in_err-summary-clause-front : goal.returns-in_err-summary-clause-front
-returns-in_err-summary-clause-front g c = λ tells.
+pub returns-in_err-summary-clause-prefix : goal.returns-in_err-summary-clause-prefix
+returns-in_err-summary-clause-prefix g c = λ tells.
     nothing (g.K.Sink.held c.args.sink.now) (summary_text (summary_of (after c.args.count c.args.maker.now)))
 
 pub returns-in_err-summary-clause-writing : goal.returns-in_err-summary-clause-writing
 returns-in_err-summary-clause-writing g c = of_memory c.from_residual-in_err-summary.result c.from_residual-in_err-summary.ensures.1
 
-pub returns-in_err-text-clause-front : goal.returns-in_err-text-clause-front
-returns-in_err-text-clause-front g c = λ tells.
+pub returns-in_err-text-clause-prefix : goal.returns-in_err-text-clause-prefix
+returns-in_err-text-clause-prefix g c = λ tells.
     nothing (g.K.Sink.held c.args.sink.now) (summary_text (summary_of (after c.args.count c.args.maker.now)))
 
 pub returns-in_err-text-clause-writing : goal.returns-in_err-text-clause-writing

@@ -3,12 +3,12 @@ use Rattle.curp_gen.specs.Making.{Making, next_step, steps_from, with_next}
 use Rattle.curp_script.specs.Texts.{lines_text, step_line}
 use Rattle.curp_io.specs.Streams.{HoldsPart}
 use Rattle.curp_runner.proofs.SoFar.{SoFar}
-use Rattle.curp_runner.proofs.Pieces.{goes_further, is_whole, still_front}
+use Rattle.curp_runner.proofs.Pieces.{goes_further, is_whole, still_prefix}
 use Rattle.curp_run.proofs.Steps.{counted_more, next_line, no_line, none_printable, printable_more, printed_line}
 use Rattle.curp_run.proofs.script.write_steps.Goals as goal
 
-pub returns-in_err-write_line-clause-front : goal.returns-in_err-write_line-clause-front
-returns-in_err-write_line-clause-front g c = λ tells.
+pub returns-in_err-write_line-clause-prefix : goal.returns-in_err-write_line-clause-prefix
+returns-in_err-write_line-clause-prefix g c = λ tells.
     let text = lines_text (steps_from c.args.count c.args.maker.now) in
     let old = g.K.Sink.held c.args.sink.now in
     let now = g.K.Sink.held c.loop.sink in
@@ -18,8 +18,8 @@ returns-in_err-write_line-clause-front g c = λ tells.
     let due : SoFar text old now (piece ++ rest) =
     subst (λ d. SoFar text old now d) (next_line c.loop.maker c.loop.counter c.args.count c.loop-test.true) (c.loop.invariant.written tells) in
     let line = printed_line c.loop.maker c.in_ok-step.step c.in_ok-line.line.items c.in_ok-line.ensures.text c.in_ok-step.ensures.step in
-    let wrote : HoldsPart now new piece = subst (λ l. HoldsPart now new l) line (c.write_line.ensures.front (c.loop.invariant.sink_tells tells)) in
-    still_front text old now new piece rest due wrote
+    let wrote : HoldsPart now new piece = subst (λ l. HoldsPart now new l) line (c.write_line.ensures.prefix (c.loop.invariant.sink_tells tells)) in
+    still_prefix text old now new piece rest due wrote
 
 pub loop-preserved : goal.loop-preserved
 loop-preserved g c = record {

@@ -4,8 +4,8 @@ use Rattle.curp_runner.specs.Reading.{Said, due}
 use Rattle.curp_runner.specs.Run.{after, text_due}
 use Rattle.curp_runner.specs.Status.{status_of}
 use Rattle.curp_runner.proofs.Endings.{written_whole}
-use Rattle.curp_runner.proofs.Fronts.{told_more, told_nothing, told_so_far}
-use Rattle.curp_runner.proofs.Pieces.{goes_further, still_front, written_so_far}
+use Rattle.curp_runner.proofs.Prefixes.{told_more, told_nothing, told_so_far}
+use Rattle.curp_runner.proofs.Pieces.{goes_further, still_prefix, written_so_far}
 use Rattle.curp_runner.proofs.Runs.{after_stays, always, ended_well, ending_stays, next_text, none_left}
 use Rattle.curp_runner.proofs.SoFar.{SoFar}
 use Rattle.curp_runner.proofs.running.do_lines.Goals as goal
@@ -68,8 +68,8 @@ lines-preserved g c =
           c.in_ok-player.ensures.next (c.in_ok-player.ensures.wrote (c.read_line.ensures.sink_tells (c.lines.invariant.sink_tells writes)));
     }
 
-pub returns-in_err-player-clause-front : goal.returns-in_err-player-clause-front
-returns-in_err-player-clause-front g c = λ told writes.
+pub returns-in_err-player-clause-prefix : goal.returns-in_err-player-clause-prefix
+returns-in_err-player-clause-prefix g c = λ told writes.
     let meaning = g.P.Line.ScriptLine.meaning in
     let play = g.P.Player.rules in
     let body = due meaning c.lines.script (g.S.Source.left c.lines.source) in
@@ -85,7 +85,7 @@ returns-in_err-player-clause-front g c = λ told writes.
     let given = rw c.in-Some.is at c.in_ok-line.ensures.due (c.lines.invariant.source_tells told) in
     let next = next_text play c.lines.number c.lines.player w l body rest given refl in
     let due_text = subst (λ d. SoFar text old now d) next so_far in
-    still_front text old now (g.K.Sink.held c.do_line.new.sink) piece left due_text (c.do_line.ensures.front (c.read_line.ensures.sink_tells (c.lines.invariant.sink_tells writes)))
+    still_prefix text old now (g.K.Sink.held c.do_line.new.sink) piece left due_text (c.do_line.ensures.prefix (c.read_line.ensures.sink_tells (c.lines.invariant.sink_tells writes)))
 
 pub returns-clause-ends : goal.returns-clause-ends
 returns-clause-ends g c = λ told cut.
@@ -99,8 +99,8 @@ returns-clause-end g c = λ told.
     let none = none_left c.in_ok-line.field-0 c.in_default.not-Some in
     always _ c.write_end.result (c.read_line.ensures.end (c.lines.invariant.source_tells told) (c.in_ok-line.was ∙ ap Ok none))
 
-pub returns-clause-front : goal.returns-clause-front
-returns-clause-front g c = λ told writes.
+pub returns-clause-prefix : goal.returns-clause-prefix
+returns-clause-prefix g c = λ told writes.
     let play = g.P.Player.rules in
     let text = text_due play 1 c.args.player (due g.P.Line.ScriptLine.meaning c.args.script.now (g.S.Source.left c.args.source.now)) in
     let old = g.K.Sink.held c.args.sink.now in
@@ -111,7 +111,7 @@ returns-clause-front g c = λ told writes.
     let given = rw none at c.in_ok-line.ensures.due (c.lines.invariant.source_tells told) in
     let left : SoFar text old now (last ++ []) =
     subst (λ d. SoFar text old now d) (ap (λ (b : Said _). text_due play c.lines.number c.lines.player b) given ∙ sym (append-nil last)) so_far in
-    still_front text old now (g.K.Sink.held c.write_end.new.sink) last [] left (c.write_end.ensures.front (c.read_line.ensures.sink_tells (c.lines.invariant.sink_tells writes)))
+    still_prefix text old now (g.K.Sink.held c.write_end.new.sink) last [] left (c.write_end.ensures.prefix (c.read_line.ensures.sink_tells (c.lines.invariant.sink_tells writes)))
 
 pub returns-clause-wrote : goal.returns-clause-wrote
 returns-clause-wrote g c = λ told writes whole.

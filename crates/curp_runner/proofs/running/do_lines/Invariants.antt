@@ -3,7 +3,7 @@ use Rattle.curp_io.specs.Streams.{SameCount}
 use Rattle.curp_msg.specs.Limits.{step_limit}
 use Rattle.curp_runner.specs.Reading.{IsBehind, due}
 use Rattle.curp_runner.specs.Run.{after, text_due}
-use Rattle.curp_runner.proofs.Fronts.{Told}
+use Rattle.curp_runner.proofs.Prefixes.{Told}
 use Rattle.curp_runner.proofs.SoFar.{SoFar}
 use Rattle.curp_runner.proofs.running.do_lines.Given as goal
 

@@ -5,7 +5,7 @@ use Rattle.curp_runner.specs.Reading.{HoldsRead, SaidScript, due, script_by}
 use Rattle.curp_runner.specs.Run.{after, line_texts_by, line_texts_in, text_by, text_due}
 use Rattle.curp_runner.specs.Status.{is_cut_short, status_of}
 use Rattle.curp_runner.proofs.Endings.{same_stop}
-use Rattle.curp_runner.proofs.Fronts.{before_header, header_before, told_so}
+use Rattle.curp_runner.proofs.Prefixes.{before_header, header_before, told_so}
 use Rattle.curp_runner.proofs.Runs.{on_ok_so, refused_ends, refused_wrote, whole_by}
 use Rattle.curp_runner.proofs.running.run.Goals as goal
 
@@ -46,15 +46,15 @@ returns-clause-wrote g c = λ told writes cut.
     ap (λ w. text_due play 1 w body) c.in_ok-player.ensures.opening ∙ sym (ap (text_by play) (c.in_ok-header.ensures.opened told)) ∙ sym (g.met.P.Player.says.text_is bytes) in
     c.do_lines.ensures.wrote (c.read_header.ensures.tells told) writes cut ∙ ap (λ (t : List ℕ). g.K.Sink.held c.args.sink.now ++ t) same
 
-pub returns-clause-front : goal.returns-clause-front
-returns-clause-front g c = λ told writes.
+pub returns-clause-prefix : goal.returns-clause-prefix
+returns-clause-prefix g c = λ told writes.
     let play = g.P.Player.rules in
     let bytes = g.S.Source.left c.args.source.now in
     let body = due g.P.Line.ScriptLine.meaning c.read_header.new.self (g.S.Source.left c.read_header.new.source) in
     let same : text_due play 1 c.in_ok-player.player body ≡ g.P.Player.script_text bytes =
     ap (λ w. text_due play 1 w body) c.in_ok-player.ensures.opening ∙ sym (ap (text_by play) (c.in_ok-header.ensures.opened told)) ∙ sym (g.met.P.Player.says.text_is bytes) in
     subst (λ (t : List ℕ). HoldsPart (g.K.Sink.held c.args.sink.now) (g.K.Sink.held c.do_lines.new.sink) t) same
-    (c.do_lines.ensures.front (c.read_header.ensures.tells told) writes)
+    (c.do_lines.ensures.prefix (c.read_header.ensures.tells told) writes)
 
 pub returns-clause-at_fault : goal.returns-clause-at_fault
 returns-clause-at_fault g c = λ told writes failed.

@@ -17,8 +17,8 @@ serves c = record {
   shows = c.served.ensures.shows;
 }
 
-pub returns-clause-front : goal.returns-clause-front
-returns-clause-front c = λ plan requests fits. (session_goes_on plan requests fits (serves c)).front
+pub returns-clause-prefix : goal.returns-clause-prefix
+returns-clause-prefix c = λ plan requests fits. (session_goes_on plan requests fits (serves c)).prefix
 
 pub returns-clause-to_the_end : goal.returns-clause-to_the_end
 returns-clause-to_the_end c = λ plan requests fits free. (session_goes_on plan requests fits (serves c)).all free

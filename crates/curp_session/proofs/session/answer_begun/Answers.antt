@@ -17,7 +17,7 @@ returns-in_err-write_opening-clause-finishes g c = λ requests rest told d.
     let new = g.K.Sink.held c.write_opening.new.sink in
     finishes_as (aim_of plan requests rest (g.S.Source.left c.args.source.now) old) (g.K.Sink.tells c.args.sink.now) new c.from_residual.result stop c.from_residual.ensures.1
     (finishes_unopened plan requests rest (g.S.Source.left c.args.source.now) old new (g.K.Sink.tells c.args.sink.now) stop (cut_by_writing stop its.writing)
-    (λ writes. subst (λ (f : ℕ). HoldsPart old new (so_far plan.output f (fresh f))) (ap (λ (s : Serving). s.f) c.requires.begun) (its.front writes)))
+    (λ writes. subst (λ (f : ℕ). HoldsPart old new (so_far plan.output f (fresh f))) (ap (λ (s : Serving). s.f) c.requires.begun) (its.prefix writes)))
 
 pub answers-init : goal.answers-init
 answers-init g c =

@@ -34,7 +34,7 @@ returns-in_err-answer-in-Asked-clause-next g c = λ aim tells o f e told sinks h
     (λ still. rw (← e) at its.limit here.now here.at still)
     (λ script still before. rw (← e) at its.printable here.now here.at (sym o ∙ script) still before)
     (λ t still is. rw (← o, ← f, ← e) at its.wrote here.now aim.before (c.next_request.ensures.tells (sinks t)) here.at is still)
-    (λ t is. rw (← o, ← f, ← e) at its.front here.now aim.before (c.next_request.ensures.tells (sinks t)) here.at is))
+    (λ t is. rw (← o, ← f, ← e) at its.prefix here.now aim.before (c.next_request.ensures.tells (sinks t)) here.at is))
 
 pub returns-in_ok-answer-in-Asked-clause-next : goal.returns-in_ok-answer-in-Asked-clause-next
 returns-in_ok-answer-in-Asked-clause-next g c = λ aim tells o f e told sinks h.
@@ -102,4 +102,4 @@ returns-in_err-write_protocol-in-BadRequest-clause-next g c = λ aim tells o f e
     (sym (ends_with c.from_residual-in_err-write_protocol-in-BadRequest.result stop c.from_residual-in_err-write_protocol-in-BadRequest.ensures.1))
     (broken_cut aim tells old new c.args.served.now.state c.args.count _ _ _ c.in-BadRequest.at stop here
     (rw c.in-BadRequest.is at c.in_ok-next.ensures.bytes told) (cut_by_writing stop its.writing)
-    (λ t. rw (← o) at its.front (c.next_request.ensures.tells (sinks t))))
+    (λ t. rw (← o) at its.prefix (c.next_request.ensures.tells (sinks t))))

@@ -1,13 +1,13 @@
 use Rattle.std.proofs.Common.{rules, ◌≡◌, ◌+◌, ◌++◌, drop, subst, List, ℕ}
 use Rattle.curp_io.specs.Streams.{HoldsPart}
-use Rattle.curp_runner.proofs.Pieces.{goes_further, is_whole, still_front}
+use Rattle.curp_runner.proofs.Pieces.{goes_further, is_whole, still_prefix}
 use Rattle.curp_runner.proofs.SoFar.{SoFar}
 use Rattle.curp_script.specs.Texts.{line_text, lines_text, step_line}
 use Rattle.curp_session.proofs.Texts.{next_in_range, next_line, no_line_left}
 use Rattle.curp_session.proofs.session.write_lines.Goals as goal
 
-pub returns-in_err-write_line-clause-front : goal.returns-in_err-write_line-clause-front
-returns-in_err-write_line-clause-front g c = λ tells.
+pub returns-in_err-write_line-clause-prefix : goal.returns-in_err-write_line-clause-prefix
+returns-in_err-write_line-clause-prefix g c = λ tells.
     let steps = c.args.steps.now in
     let k = c.loop-step.step-index in
     let s = c.step-item.result in
@@ -17,8 +17,8 @@ returns-in_err-write_line-clause-front g c = λ tells.
     let new = g.K.Sink.held c.write_line.new.sink in
     let due : SoFar text old now (step_line s ++ lines_text (drop (k + 1) steps)) =
     subst (λ (d : List ℕ). SoFar text old now d) (next_line steps k s c.loop-step-test.true c.step-item.is) (c.loop-step.invariant.written tells) in
-    still_front text old now new (step_line s) (lines_text (drop (k + 1) steps)) due
-    (subst (λ (l : List ℕ). HoldsPart now new (line_text l)) c.in_ok-print_line.ensures.text (c.write_line.ensures.front (c.loop-step.invariant.sink_tells tells)))
+    still_prefix text old now new (step_line s) (lines_text (drop (k + 1) steps)) due
+    (subst (λ (l : List ℕ). HoldsPart now new (line_text l)) c.in_ok-print_line.ensures.text (c.write_line.ensures.prefix (c.loop-step.invariant.sink_tells tells)))
 
 pub loop-step-preserved : goal.loop-step-preserved
 loop-step-preserved g c =

@@ -11,8 +11,8 @@ returns-in_ok-print_header-in-Script-clause-wrote g c = λ tells.
     (opening_text c.args.output c.args.served.now.f c.header.result.now _ c.in-Script.is c.header.ensures c.in_ok-print_header-in-Script.ensures.text)
     (c.write_line.ensures.wrote tells)
 
-pub returns-in_ok-print_header-in-Script-clause-front : goal.returns-in_ok-print_header-in-Script-clause-front
-returns-in_ok-print_header-in-Script-clause-front g c = λ tells.
+pub returns-in_ok-print_header-in-Script-clause-prefix : goal.returns-in_ok-print_header-in-Script-clause-prefix
+returns-in_ok-print_header-in-Script-clause-prefix g c = λ tells.
     subst (λ (t : List ℕ). HoldsPart (g.K.Sink.held c.args.sink.now) (g.K.Sink.held c.write_line.new.sink) t)
     (opening_text c.args.output c.args.served.now.f c.header.result.now _ c.in-Script.is c.header.ensures c.in_ok-print_header-in-Script.ensures.text)
-    (c.write_line.ensures.front tells)
+    (c.write_line.ensures.prefix tells)

@@ -1,5 +1,5 @@
 use Rattle.std.proofs.Common.{arith}
-use Rattle.curp_items.proofs.Fronts.{are_bytes}
+use Rattle.curp_items.proofs.Prefixes.{are_bytes}
 use Rattle.curp_title.proofs.Titles.{no_title, title_found}
 use Rattle.curp_title.proofs.title.title_in.Goals as goal
 

@@ -1,6 +1,6 @@
 use Rattle.std.proofs.Common.{◌∙◌, ap, arith}
 use Rattle.std.proofs.lemmas.Result.{IfOk-weaker}
-use Rattle.curp_items.proofs.Fronts.{are_bytes}
+use Rattle.curp_items.proofs.Prefixes.{are_bytes}
 use Rattle.curp_wire.specs.Frame.{frame_in}
 use Rattle.curp_wire.proofs.Frames.{all_found, frame_again}
 use Rattle.curp_wire.proofs.reading.decode.Goals as goal

@@ -9,7 +9,7 @@ pub returns-clause-length : goal.returns-clause-length
 returns-clause-length c =
     let m = c.args.message.now in
     let zeros = c.in_ok-vec.field-0.items in
-    let are = c.into_vec.ensures ∙ ap (λ (w : Written). w.front ++ w.text) (c.in_ok-write_content.ensures.writes ∙ ap (λ (w : Written). behind w (content m)) c.new-out.ensures) in
+    let are = c.into_vec.ensures ∙ ap (λ (w : Written). w.prefix ++ w.text) (c.in_ok-write_content.ensures.writes ∙ ap (λ (w : Written). behind w (content m)) c.new-out.ensures) in
     let four : length zeros ≡ 4 = omega (arith, c.in_ok-vec.ensures.len, c.in_ok-vec.field-0.ok.0) in
     omega (arith, ap length are, length-append zeros (content m), four)
 
@@ -17,6 +17,6 @@ pub returns-clause-content : goal.returns-clause-content
 returns-clause-content c =
     let m = c.args.message.now in
     let zeros = c.in_ok-vec.field-0.items in
-    let are = c.into_vec.ensures ∙ ap (λ (w : Written). w.front ++ w.text) (c.in_ok-write_content.ensures.writes ∙ ap (λ (w : Written). behind w (content m)) c.new-out.ensures) in
+    let are = c.into_vec.ensures ∙ ap (λ (w : Written). w.prefix ++ w.text) (c.in_ok-write_content.ensures.writes ∙ ap (λ (w : Written). behind w (content m)) c.new-out.ensures) in
     let four : length zeros ≡ 4 = omega (arith, c.in_ok-vec.ensures.len, c.in_ok-vec.field-0.ok.0) in
     ap (drop 4) are ∙ drop_at zeros (content m) 4 four

@@ -4,7 +4,7 @@ use Rattle.curp_cmd.specs.declared.command.Request.{Request}
 use Rattle.curp_model.specs.Client as model
 use Rattle.curp_msg.specs.Moved.{Moved}
 use Rattle.curp_client.proofs.Numbers.{each_changed}
-use Rattle.curp_client.proofs.Orders.{retry_made, retry_sends, retry_split, retry_wants_memory}
+use Rattle.curp_client.proofs.Orders.{retry_made, retry_sends, retry_split, retry_out_of_memory}
 use Rattle.curp_client.proofs.client.Client.retry.Goals as goal
 
 pub returns-in_default-owner_of-clause-refused : goal.returns-in_default-owner_of-clause-refused
@@ -13,17 +13,17 @@ returns-in_default-owner_of-clause-refused c =
 
 pub returns-in_err-messages-clause-refused : goal.returns-in_err-messages-clause-refused
 returns-in_err-messages-clause-refused c =
-    rw (sym c.self.view_is) (retry_wants_memory _ _ _ c.in-Some.pending.now c.deref.result.now c.in-Some.ensures (c.deref.ensures ∙ c.request-request.ensures) c.in-Some-owner_of.part.now _ c.in-Some-owner_of.ensures c.from_residual.ensures)
+    rw (sym c.self.view_is) (retry_out_of_memory _ _ _ c.in-Some.pending.now c.deref.result.now c.in-Some.ensures (c.deref.ensures ∙ c.request-request.ensures) c.in-Some-owner_of.part.now _ c.in-Some-owner_of.ensures c.from_residual.ensures)
 
 pub returns-in_err-attempt-clause-refused : goal.returns-in_err-attempt-clause-refused
 returns-in_err-attempt-clause-refused c =
     rw (sym c.self.view_is)
-    (retry_wants_memory _ _ _ c.in-Some.pending.now c.deref.result.now c.in-Some.ensures (c.deref.ensures ∙ c.request-request.ensures) c.in-Some-owner_of.part.now _ c.in-Some-owner_of.ensures c.from_residual-in_err-attempt.ensures)
+    (retry_out_of_memory _ _ _ c.in-Some.pending.now c.deref.result.now c.in-Some.ensures (c.deref.ensures ∙ c.request-request.ensures) c.in-Some-owner_of.part.now _ c.in-Some-owner_of.ensures c.from_residual-in_err-attempt.ensures)
 
 pub returns-in_err-resend-clause-refused : goal.returns-in_err-resend-clause-refused
 returns-in_err-resend-clause-refused c =
     rw (sym c.self.view_is)
-    (retry_wants_memory _ _ _ c.in-Some.pending.now c.deref.result.now c.in-Some.ensures (c.deref.ensures ∙ c.request-request.ensures) c.in-Some-owner_of.part.now _ c.in-Some-owner_of.ensures c.from_residual-in_err-resend.ensures)
+    (retry_out_of_memory _ _ _ c.in-Some.pending.now c.deref.result.now c.in-Some.ensures (c.deref.ensures ∙ c.request-request.ensures) c.in-Some-owner_of.part.now _ c.in-Some-owner_of.ensures c.from_residual-in_err-resend.ensures)
 
 pub invariant_of-self-2 : goal.invariant_of-self-2
 invariant_of-self-2 c =

@@ -16,7 +16,7 @@ returns-then-is_captured_behind-clause-marks c =
     let old = c.args.marks.now.marks in
     let entries = ap (λ (es : List Entry). drop f.length es) c.log-log.ensures.entries in
     let ops : c.add_ops.new.marks.marks ≡ old ++ op_marks node m.part m.epoch f.length (drop f.length m.log) =
-    c.add_ops.ensures.marks ∙ (λ i. old ++ op_marks (c.tenure_of.ensures i).master (c.tenure_of.ensures i).part (c.tenure_of.ensures i).epoch f.length (entries i)) in
+    c.add_ops.ensures.marks ∙ (λ i. old ++ op_marks (c.term_of.ensures i).master (c.term_of.ensures i).part (c.term_of.ensures i).epoch f.length (entries i)) in
     let last = ap (is_captured_behind f.captured) (sym c.last_capture.ensures) ∙ sym c.is_captured_behind.ensures ∙ c.if-is_captured_behind.true in
     let new = (one_captured f c.args.marks.now.spare m c.requires.room c.captured-captured.ensures.numbered last).2 in
     let looked : Mark = capture_mark node m.part m.epoch new.1 in
@@ -47,7 +47,7 @@ returns-else-is_captured_behind-clause-marks c =
     let last = ap (is_captured_behind f.captured) (sym c.last_capture.ensures) ∙ sym c.is_captured_behind.ensures ∙ c.if-is_captured_behind.false in
     let none = none_captured f c.args.marks.now.spare m c.requires.room c.captured-captured.ensures.numbered last in
     c.add_ops.ensures.marks
-    ∙ (λ i. old ++ op_marks (c.tenure_of.ensures i).master (c.tenure_of.ensures i).part (c.tenure_of.ensures i).epoch f.length (entries i))
+    ∙ (λ i. old ++ op_marks (c.term_of.ensures i).master (c.term_of.ensures i).part (c.term_of.ensures i).epoch f.length (entries i))
     ∙ ap (λ (ms : List Mark). old ++ ms) (sym (append-nil pushed))
     ∙ ap (λ (cs : List Captured). old ++ (pushed ++ map (capture_mark node m.part m.epoch) cs)) (sym none)
 

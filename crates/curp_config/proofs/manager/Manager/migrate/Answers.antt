@@ -4,7 +4,7 @@ use Rattle.curp_msg.specs.declared.machine.Done.{Done}
 use Rattle.curp_msg.specs.declared.message.Message.{Message}
 use Rattle.curp_model.specs.Manager.{ManagerState}
 use Rattle.curp_config.proofs.Movable.{move_made, move_says}
-use Rattle.curp_config.proofs.Ordered.{migrate_made, migrate_stops, migrate_wants_memory}
+use Rattle.curp_config.proofs.Ordered.{migrate_made, migrate_stops, migrate_out_of_memory}
 use Rattle.curp_config.proofs.manager.Manager.migrate.Goals as goal
 
 pub returns-in_default-clause-moves : goal.returns-in_default-clause-moves
@@ -17,7 +17,7 @@ returns-in_default-clause-refused c =
 
 pub returns-in_err-messages-clause-refused : goal.returns-in_err-messages-clause-refused
 returns-in_err-messages-clause-refused c =
-    migrate_wants_memory c.args.self.now c.args.lo c.args.hi c.args.to _ _ (c.in_ok-owner.ensures.ok c.in_ok-owner.ensures.ordered) c.in-Some.ensures.1 c.from_residual-in_err-messages.ensures
+    migrate_out_of_memory c.args.self.now c.args.lo c.args.hi c.args.to _ _ (c.in_ok-owner.ensures.ok c.in_ok-owner.ensures.ordered) c.in-Some.ensures.1 c.from_residual-in_err-messages.ensures
 
 pub returns-clause-moves : goal.returns-clause-moves
 returns-clause-moves c =

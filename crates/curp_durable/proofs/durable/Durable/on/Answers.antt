@@ -3,7 +3,7 @@ use Rattle.curp_disk.specs.Disk.{LeavesOnly}
 use Rattle.curp_journal.specs.declared.arrived.Arrived.{Arrived}
 use Rattle.curp_durable.specs.Answering.{RefusesBatch}
 use Rattle.curp_durable.specs.Journal.{IsBeforeOrAfter, IsSettled}
-use Rattle.curp_durable.specs.Running.{AllMade, RanUntil, calls_for, gate_behind}
+use Rattle.curp_durable.specs.Running.{AllMade, RanUntil, calls_for, commit_behind}
 use Rattle.curp_durable.specs.Standing.{after, answer_of, answers_of, taken}
 use Rattle.curp_durable.proofs.Lone.{done_told}
 use Rattle.curp_durable.proofs.durable.Durable.on.Goals as goal
@@ -20,22 +20,22 @@ returns-in-Ok-on_all-clause-done g c =
 pub returns-in-Ok-on_all-clause-state : goal.returns-in-Ok-on_all-clause-state
 returns-in-Ok-on_all-clause-state g c = c.in-Ok-on_all.ensures.state ∙ ap (after g.N.Core.machine c.args.self.now.stand) c.in-Ok.ensures
 
-pub returns-in-Ok-on_all-clause-gate : goal.returns-in-Ok-on_all-clause-gate
-returns-in-Ok-on_all-clause-gate g c =
-    c.in-Ok-on_all.ensures.gate ∙ ap (λ (l : List Arrived). gate_behind c.args.self.now.gate (taken g.N.Core.machine c.args.self.now.stand l)) c.in-Ok.ensures
+pub returns-in-Ok-on_all-clause-commit : goal.returns-in-Ok-on_all-clause-commit
+returns-in-Ok-on_all-clause-commit g c =
+    c.in-Ok-on_all.ensures.commit ∙ ap (λ (l : List Arrived). commit_behind c.args.self.now.commit (taken g.N.Core.machine c.args.self.now.stand l)) c.in-Ok.ensures
 
 pub returns-in-Ok-on_all-clause-ran : goal.returns-in-Ok-on_all-clause-ran
 returns-in-Ok-on_all-clause-ran g c =
     let D = g.D.Disk in
     let old = c.args.self.now in
-    subst (λ (l : List Arrived). AllMade D.wrote D.synced (calls_for old.gate (taken g.N.Core.machine old.stand l)) old.disk c.on_all.new.self.disk) c.in-Ok.ensures c.in-Ok-on_all.ensures.ran
+    subst (λ (l : List Arrived). AllMade D.wrote D.synced (calls_for old.commit (taken g.N.Core.machine old.stand l)) old.disk c.on_all.new.self.disk) c.in-Ok.ensures c.in-Ok-on_all.ensures.ran
 
 pub returns-in-Ok-on_all-clause-kept : goal.returns-in-Ok-on_all-clause-kept
 returns-in-Ok-on_all-clause-kept g c title opening so_far told was settled =
     let machine = g.N.Core.machine in
     let D = g.D.Disk in
     let new = c.on_all.new.self in
-    subst (λ (l : List Arrived). IsSettled machine D.seen D.may_leave new.disk new.stand new.gate title opening (so_far ++ taken machine c.args.self.now.stand l)) c.in-Ok.ensures
+    subst (λ (l : List Arrived). IsSettled machine D.seen D.may_leave new.disk new.stand new.commit title opening (so_far ++ taken machine c.args.self.now.stand l)) c.in-Ok.ensures
     (c.in-Ok-on_all.ensures.kept title opening so_far told was settled)
 
 pub returns-in-Ok-on_all-clause-any_moment : goal.returns-in-Ok-on_all-clause-any_moment
@@ -56,7 +56,7 @@ pub returns-in-Err-clause-ran_err : goal.returns-in-Err-clause-ran_err
 returns-in-Err-clause-ran_err g c =
     let D = g.D.Disk in
     let old = c.args.self.now in
-    subst (λ (l : List Arrived). RanUntil D.wrote D.synced old.gate (taken g.N.Core.machine old.stand l) old.disk c.on_all.new.self.disk c.in-Err.why) c.in-Ok.ensures c.in-Err.ensures.ran_err
+    subst (λ (l : List Arrived). RanUntil D.wrote D.synced old.commit (taken g.N.Core.machine old.stand l) old.disk c.on_all.new.self.disk c.in-Err.why) c.in-Ok.ensures c.in-Err.ensures.ran_err
 
 pub returns-in-Err-clause-any_moment : goal.returns-in-Err-clause-any_moment
 returns-in-Err-clause-any_moment g c title opening so_far told fresh settled =

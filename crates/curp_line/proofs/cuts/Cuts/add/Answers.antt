@@ -7,9 +7,9 @@ use Rattle.curp_line.proofs.Found.{cuts_of, found_push}
 use Rattle.curp_line.proofs.cuts.Cuts.add.Goals as goal
 
 -- how often the partition was adopted before
-counted : (c : goal.After-push) → c.count_of-earlier.result ≡ how_many (is_cut_of c.args.tenure.part) c.self.inside.list.items
-counted c = c.count_of-earlier.ensures ∙ ap (λ (es : List CutEpoch). how_many (is_epoch_of c.args.tenure.part) es) c.deref.ensures.value
-    ∙ cuts_of (λ part earlier. get (λ (a b : ℕ × ℕ). (a.0 == b.0) && (a.1 == b.1)) c.self.inside.places (part, earlier)) c.self.inside.epochs.items c.self.inside.list.items c.self.invariant c.args.tenure.part
+counted : (c : goal.After-push) → c.count_of-earlier.result ≡ how_many (is_cut_of c.args.term.part) c.self.inside.list.items
+counted c = c.count_of-earlier.ensures ∙ ap (λ (es : List CutEpoch). how_many (is_epoch_of c.args.term.part) es) c.deref.ensures.value
+    ∙ cuts_of (λ part earlier. get (λ (a b : ℕ × ℕ). (a.0 == b.0) && (a.1 == b.1)) c.self.inside.places (part, earlier)) c.self.inside.epochs.items c.self.inside.list.items c.self.invariant c.args.term.part
 
 pub invariant_of-self : goal.invariant_of-self
 invariant_of-self c =
@@ -21,7 +21,7 @@ invariant_of-self c =
     c.self.inside.epochs.items c.self.inside.list.items c.self.invariant
     (λ part earlier. get (λ (a b : ℕ × ℕ). (a.0 == b.0) && (a.1 == b.1)) c.insert-replaced.new.self (part, earlier))
     c.add_epoch.new.epochs.items
-    (record { tenure = c.args.tenure; earlier = c.count_of-earlier.result; length = c.args.length })
+    (record { term = c.args.term; earlier = c.count_of-earlier.result; length = c.args.length })
     (counted c)
     (λ part earlier. rw long at (updates.0 (part, earlier)))
     c.add_epoch.ensures.items
@@ -29,6 +29,6 @@ invariant_of-self c =
 
 pub returns-clause-cuts : goal.returns-clause-cuts
 returns-clause-cuts c =
-    let cut : ℕ → Cut = λ n. record { tenure = c.args.tenure; earlier = n; length = c.args.length } in
+    let cut : ℕ → Cut = λ n. record { term = c.args.term; earlier = n; length = c.args.length } in
     c.push.ensures.items ∙ ap (λ n. c.self.inside.list.items ++ cut n ∷ []) (counted c)
-    ∙ ap (λ a. a.cuts ++ cut (how_many (is_cut_of c.args.tenure.part) a.cuts) ∷ []) c.self.view_is
+    ∙ ap (λ a. a.cuts ++ cut (how_many (is_cut_of c.args.term.part) a.cuts) ∷ []) c.self.view_is

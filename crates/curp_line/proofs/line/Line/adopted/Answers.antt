@@ -7,9 +7,9 @@ use Rattle.curp_line.proofs.line.Line.adopted.Goals as goal
 -- no adoption goes, so that the next one's number is what it was
 pub returns-clause-marks : goal.returns-clause-marks
 returns-clause-marks c =
-    let dropped = filter (λ (m : Mark). not (is_dropped c.args.tenure.part c.args.cut m)) c.args.self.now.marks in
-    let mark = λ (n : ℕ). cut_mark c.args.tenure.master c.args.tenure.part c.args.tenure.epoch (n + 1) c.args.cut in
+    let dropped = filter (λ (m : Mark). not (is_dropped c.args.term.part c.args.cut m)) c.args.self.now.marks in
+    let mark = λ (n : ℕ). cut_mark c.args.term.master c.args.term.part c.args.term.epoch (n + 1) c.args.cut in
     c.replay.ensures.marks
-    ∙ ap (replayed_marks c.args.tenure.master c.args.tenure.part c.args.tenure.epoch c.args.cut c.args.replayed.now)
-    (c.cut.ensures.marks ∙ ap (λ ms. ms ++ mark (adoptions c.args.tenure.part ms) ∷ []) c.drop_past.ensures.marks
-    ∙ ap (λ n. dropped ++ mark n ∷ []) (adoptions_left c.args.tenure.part c.args.cut c.args.self.now.marks))
+    ∙ ap (replayed_marks c.args.term.master c.args.term.part c.args.term.epoch c.args.cut c.args.replayed.now)
+    (c.cut.ensures.marks ∙ ap (λ ms. ms ++ mark (adoptions c.args.term.part ms) ∷ []) c.drop_past.ensures.marks
+    ∙ ap (λ n. dropped ++ mark n ∷ []) (adoptions_left c.args.term.part c.args.cut c.args.self.now.marks))

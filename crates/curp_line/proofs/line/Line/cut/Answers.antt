@@ -11,7 +11,7 @@ use Rattle.curp_line.proofs.line.Line.cut.Goals as goal
 use Rattle.curp_line.proofs.line.Line.cut.Goals.{After-add}
 
 added : After-add → Cut
-added c = record { tenure = c.args.tenure; earlier = how_many (is_cut_of c.args.tenure.part) c.self.inside.cuts.cuts; length = c.args.length }
+added c = record { term = c.args.term; earlier = how_many (is_cut_of c.args.term.part) c.self.inside.cuts.cuts; length = c.args.length }
 
 pub invariant_of-self : goal.invariant_of-self
 unfolding added
@@ -24,7 +24,7 @@ unfolding added
 returns-clause-marks c =
     let cuts = c.self.inside.cuts.cuts in
     let slots = c.self.inside.slots.slots in
-    let mark = λ (n : ℕ). cut_mark c.args.tenure.master c.args.tenure.part c.args.tenure.epoch (n + 1) c.args.length in
+    let mark = λ (n : ℕ). cut_mark c.args.term.master c.args.term.part c.args.term.epoch (n + 1) c.args.length in
     ap (λ cs. marks_from 0 cs slots) c.add.ensures.cuts ∙ cut_behind cuts (added c) slots c.self.invariant
-    ∙ ap (λ n. marks_from 0 cuts slots ++ mark n ∷ []) (sym (adoptions_counted c.args.tenure.part cuts slots (are_of_requests (length cuts) slots c.self.invariant)))
-    ∙ ap (λ (l : Marking). l.marks ++ mark (adoptions c.args.tenure.part l.marks) ∷ []) c.self.view_is
+    ∙ ap (λ n. marks_from 0 cuts slots ++ mark n ∷ []) (sym (adoptions_counted c.args.term.part cuts slots (are_of_requests (length cuts) slots c.self.invariant)))
+    ∙ ap (λ (l : Marking). l.marks ++ mark (adoptions c.args.term.part l.marks) ∷ []) c.self.view_is

@@ -7,7 +7,7 @@ use Rattle.curp_line.proofs.line.Line.quick.Goals as goal
 
 pub invariant_of-self : goal.invariant_of-self
 invariant_of-self c =
-    let within = place_within (is_cut_at c.args.tenure.part (how_many (is_cut_to c.args.tenure.part c.args.tenure.epoch) c.self.inside.cuts.cuts)) c.self.inside.cuts.cuts in
+    let within = place_within (is_cut_at c.args.term.part (how_many (is_cut_to c.args.term.part c.args.term.epoch) c.self.inside.cuts.cuts)) c.self.inside.cuts.cuts in
     rw c.push.ensures.slots
     (stand_push (length c.self.inside.cuts.cuts) c.self.inside.slots.slots c.new-mark.result c.place_behind-cuts_before.result c.self.invariant (omega (arith, c.place_behind-cuts_before.ensures, within)) (rw c.new-mark.ensures refl))
 
@@ -17,7 +17,7 @@ returns-clause-marks c =
     let slots = c.self.inside.slots.slots in
     let requests = are_of_requests (length cuts) slots c.self.invariant in
     ap (marks_from 0 cuts) c.push.ensures.slots
-    ∙ late c.args.tenure.part (how_many (is_cut_to c.args.tenure.part c.args.tenure.epoch) cuts) cuts slots c.new-mark.result c.place_behind-cuts_before.result requests c.place_behind-cuts_before.ensures
-    ∙ ap (λ k. put_at c.args.tenure.part (k + 1) c.new-mark.result (marks_from 0 cuts slots)) (sym (adoptions_counted_to c.args.tenure.part c.args.tenure.epoch cuts slots requests))
-    ∙ ap (λ m. put_at c.args.tenure.part (adoptions_to c.args.tenure.part c.args.tenure.epoch (marks_from 0 cuts slots) + 1) m (marks_from 0 cuts slots)) c.new-mark.ensures
-    ∙ ap (λ l. with_quick (quick c.args.tenure.master c.args.tenure.part c.args.tenure.epoch c.args.capture c.args.id c.args.command) l.marks) c.self.view_is
+    ∙ late c.args.term.part (how_many (is_cut_to c.args.term.part c.args.term.epoch) cuts) cuts slots c.new-mark.result c.place_behind-cuts_before.result requests c.place_behind-cuts_before.ensures
+    ∙ ap (λ k. put_at c.args.term.part (k + 1) c.new-mark.result (marks_from 0 cuts slots)) (sym (adoptions_counted_to c.args.term.part c.args.term.epoch cuts slots requests))
+    ∙ ap (λ m. put_at c.args.term.part (adoptions_to c.args.term.part c.args.term.epoch (marks_from 0 cuts slots) + 1) m (marks_from 0 cuts slots)) c.new-mark.ensures
+    ∙ ap (λ l. with_quick (quick c.args.term.master c.args.term.part c.args.term.epoch c.args.capture c.args.id c.args.command) l.marks) c.self.view_is

@@ -1,6 +1,6 @@
 use Rattle.std.proofs.Common.{◌≡◌, ◌<◌, [], ◌∷◌, IfOk, refl, sym, ◌∙◌, ap, subst}
 use Rattle.curp_durable.specs.Standing.{taken}
-use Rattle.curp_durable.specs.Stopping.{kept_gate, kept_inputs}
+use Rattle.curp_durable.specs.Stopping.{kept_commit, kept_inputs}
 use Rattle.curp_journal.specs.Given.{given}
 use Rattle.curp_manage.specs.Kept.{title_for}
 use Rattle.curp_manage.specs.Managed.{LineDone, Managed, input_given}
@@ -21,7 +21,7 @@ invariant_of-managing c =
     let m = c.self.invariant in
     let few : i.manager.stand.count < step_limit = subst (λ (v : Managed). v.decisions < step_limit) (sym c.self.view_is) c.requires.few in
     let on = c.in-Ok.ensures in
-    managed_after i.header i.manager i.crash i.next c.args.arrived m few c.requires.small c.on.new.self on.state on.gate on.ran (λ disarmed. (on.sound disarmed).1) on.goes_on.1 on.limit
+    managed_after i.header i.manager i.crash i.next c.args.arrived m few c.requires.small c.on.new.self on.state on.commit on.ran (λ disarmed. (on.sound disarmed).1) on.goes_on.1 on.limit
     (on.kept (title_for i.header) (opening_manager (shape_of i.header)) m.inputs refl refl m.keeps)
 
 pub returns-in-Ok-clause-done : goal.returns-in-Ok-clause-done
@@ -30,7 +30,7 @@ returns-in-Ok-clause-done c =
     let m = c.self.invariant in
     let few : i.manager.stand.count < step_limit = subst (λ (v : Managed). v.decisions < step_limit) (sym c.self.view_is) c.requires.few in
     let on = c.in-Ok.ensures in
-    let told = told_is i.header i.manager i.crash i.next c.args.arrived m few c.requires.small c.on.new.self on.state on.gate on.ran (λ disarmed. (on.sound disarmed).1) c.in-Ok.done on.done in
+    let told = told_is i.header i.manager i.crash i.next c.args.arrived m few c.requires.small c.on.new.self on.state on.commit on.ran (λ disarmed. (on.sound disarmed).1) c.in-Ok.done on.done in
     subst (λ (x : LineDone). IfOk c.tell.result (λ r. record { now = r.0; outcome = r.1 } ≡ x)) (told ∙ ap (λ (v : Managed). input_given v (given c.args.arrived)) c.self.view_is) c.tell.ensures.done
 
 -- ---- the disk stops
@@ -46,8 +46,8 @@ open_crashed-requires-clause-journal c =
     let takes = taken manager_machine old.stand (c.args.arrived ∷ []) in
     let stopped = stopped_at i.header old i.crash i.next c.args.arrived m few c.requires.small c.on.new.self.disk stop c.in-Some.is failed.0 failed.1 in (
       kept_inputs m.inputs takes stop.call stop.kept,
-      kept_gate old.gate takes stop.call stop.kept,
-      c.a_stopped_batch_is_kept_or_lost.ensures old.disk c.on.new.self.disk old.stand old.gate stop.call (title_for i.header) (opening_manager (shape_of i.header)) m.inputs takes stop.kept m.keeps stopped,
+      kept_commit old.commit takes stop.call stop.kept,
+      c.a_stopped_batch_is_kept_or_lost.ensures old.disk c.on.new.self.disk old.stand old.commit stop.call (title_for i.header) (opening_manager (shape_of i.header)) m.inputs takes stop.kept m.keeps stopped,
     )
 
 pub over-managing-requires : goal.over-managing-requires
@@ -60,9 +60,9 @@ over-managing-requires c =
     let failed = rw c.in-Err-DiskFault.field-0-is at c.in-Err-DiskFault.ensures.ran_err in
     let takes = taken manager_machine old.stand (c.args.arrived ∷ []) in
     let stopped = stopped_at i.header old i.crash i.next c.args.arrived m few c.requires.small c.on.new.self.disk stop c.in-Some.is failed.0 failed.1 in
-    let journal = c.a_stopped_batch_is_kept_or_lost.ensures old.disk c.on.new.self.disk old.stand old.gate stop.call (title_for i.header) (opening_manager (shape_of i.header)) m.inputs takes stop.kept m.keeps stopped in
+    let journal = c.a_stopped_batch_is_kept_or_lost.ensures old.disk c.on.new.self.disk old.stand old.commit stop.call (title_for i.header) (opening_manager (shape_of i.header)) m.inputs takes stop.kept m.keeps stopped in
     let again = c.in_ok-manager-in-Err-DiskFault.manager in
-    let opened = c.in_ok-manager-in-Err-DiskFault.ensures (kept_inputs m.inputs takes stop.call stop.kept) (kept_gate old.gate takes stop.call stop.kept) journal in
+    let opened = c.in_ok-manager-in-Err-DiskFault.ensures (kept_inputs m.inputs takes stop.call stop.kept) (kept_commit old.commit takes stop.call stop.kept) journal in
     managed_again i.header old i.crash i.next c.args.arrived m few c.requires.small c.on.new.self.disk stop c.in-Some.is failed.0 failed.1 again opened
 
 pub returns-in_ok-manager-in-Err-DiskFault-clause-done : goal.returns-in_ok-manager-in-Err-DiskFault-clause-done
@@ -75,9 +75,9 @@ returns-in_ok-manager-in-Err-DiskFault-clause-done c =
     let failed = rw c.in-Err-DiskFault.field-0-is at c.in-Err-DiskFault.ensures.ran_err in
     let takes = taken manager_machine old.stand (c.args.arrived ∷ []) in
     let stopped = stopped_at i.header old i.crash i.next c.args.arrived m few c.requires.small c.on.new.self.disk stop c.in-Some.is failed.0 failed.1 in
-    let journal = c.a_stopped_batch_is_kept_or_lost.ensures old.disk c.on.new.self.disk old.stand old.gate stop.call (title_for i.header) (opening_manager (shape_of i.header)) m.inputs takes stop.kept m.keeps stopped in
+    let journal = c.a_stopped_batch_is_kept_or_lost.ensures old.disk c.on.new.self.disk old.stand old.commit stop.call (title_for i.header) (opening_manager (shape_of i.header)) m.inputs takes stop.kept m.keeps stopped in
     let again = c.in_ok-manager-in-Err-DiskFault.manager in
-    let opened = c.in_ok-manager-in-Err-DiskFault.ensures (kept_inputs m.inputs takes stop.call stop.kept) (kept_gate old.gate takes stop.call stop.kept) journal in
+    let opened = c.in_ok-manager-in-Err-DiskFault.ensures (kept_inputs m.inputs takes stop.call stop.kept) (kept_commit old.commit takes stop.call stop.kept) journal in
     let so = stopped_is i.header old i.crash i.next c.args.arrived m few c.requires.small c.on.new.self.disk stop c.in-Some.is failed.0 failed.1 again opened c.keeps_input-kept.result c.keeps_input-kept.ensures in
     ap (λ (v : Managed). let d : LineDone = record { now = v; outcome = outcome.Stopped c.keeps_input-kept.result } in d) c.over-managing.ensures
     ∙ so ∙ ap (λ (v : Managed). input_given v (given c.args.arrived)) c.self.view_is

@@ -10,13 +10,13 @@ use Rattle.curp_tail.proofs.Kept.{ranges_left, rises_from}
 use Rattle.curp_tail.proofs.Tails.{is_below, parted, not_below}
 use Rattle.curp_tail.proofs.tail.Tail.synced.Goals as goal
 
-left_is : (c : goal.After-retain) → c.forget_front.new.entries.items ≡ filter (λ (e : TailEntry). nat_le c.args.length e.index) c.self.inside.entries.items
+left_is : (c : goal.After-retain) → c.forget_prefix.new.entries.items ≡ filter (λ (e : TailEntry). nat_le c.args.length e.index) c.self.inside.entries.items
 left_is c =
     let point = IsPartitionPoint-from_clause (is_below c.args.length) c.self.inside.entries.items c.partition_point-forgotten.result c.partition_point-forgotten.ensures.partitioned
     (parted c.self.inside.entries.items c.args.length c.self.invariant.rise) (λ a r f called. search rules) in
-    c.forget_front.ensures.items ∙ not_below c.self.inside.entries.items c.args.length c.partition_point-forgotten.result point
+    c.forget_prefix.ensures.items ∙ not_below c.self.inside.entries.items c.args.length c.partition_point-forgotten.result point
 
-ranges_are : (c : goal.After-retain) → c.retain.new.self.items ≡ ranges_in c.forget_front.new.entries.items
+ranges_are : (c : goal.After-retain) → c.retain.new.self.items ≡ ranges_in c.forget_prefix.new.entries.items
 ranges_are c =
     filter_same _ (λ (m : Moved). nat_le c.args.length m.index) _ (λ x b f' k. search (rules, tests)) _ _ c.retain.ensures.filtered
     ∙ ap (λ (ms : List Moved). filter (λ (m : Moved). nat_le c.args.length m.index) ms) c.self.invariant.ranges_are
@@ -25,8 +25,8 @@ ranges_are c =
 
 pub invariant_of-self : goal.invariant_of-self
 invariant_of-self c = record {
-  rise = subst IndexesRise (sym c.forget_front.ensures.items) (rises_from c.self.inside.entries.items c.partition_point-forgotten.result c.self.invariant.rise);
-  lasts = c.forget_front.ensures.lasts;
+  rise = subst IndexesRise (sym c.forget_prefix.ensures.items) (rises_from c.self.inside.entries.items c.partition_point-forgotten.result c.self.invariant.rise);
+  lasts = c.forget_prefix.ensures.lasts;
   ranges_are = ranges_are c;
 }
 

@@ -1,9 +1,0 @@
-use Rattle.std.proofs.Common.{length}
-use Rattle.curp_entries.proofs.Packs.{begins}
-use Rattle.curp_entries.proofs.front.next_entry.Goals as goal
-use Rattle.curp_items.specs.Spelling.{spelling}
-
-pub returns-in-Ok : goal.returns-in-Ok
-returns-in-Ok c entry rest is laid =
-    let read = c.in-Ok.ensures.only entry (length (spelling entry)) (begins entry rest c.args.bytes.now is laid) (λ e. absurd cc) in
-    cc
