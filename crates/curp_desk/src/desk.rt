@@ -6,7 +6,7 @@ use curp_base::NoMemory;
 use curp_journal::Arrived;
 use curp_msg::Core;
 use curp_ruled::{Parcel, Take};
-use curp_seat::{Chores, Observer, Kept};
+use curp_seat::{Chores, Kept, Observer};
 use std::alloc::Global;
 use std::sync::{Condvar, Mutex, Wait};
 

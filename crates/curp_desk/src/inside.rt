@@ -9,7 +9,7 @@ use curp_cmd::{NodeId, RequestId};
 use curp_journal::{Arrived, Named};
 use curp_msg::{Completed, Core};
 use curp_ruled::Parcel;
-use curp_seat::{Observer, Kept, Running, Took};
+use curp_seat::{Kept, Observer, Running, Took};
 use std::alloc::{AllocError, Global};
 use std::collections::VecDeque;
 use std::marker::Model;

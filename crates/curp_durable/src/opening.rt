@@ -60,7 +60,9 @@ fn batch_at(alloc: Global, content: &[u8], commit: usize) -> Result<Option<Found
     let bytes = &content[commit..];
     match next_in(bytes) {
         Next::Shut => Ok(None),
-        Next::Cut => Err(OpenError::Damaged { place: commit as u64 }),
+        Next::Cut => Err(OpenError::Damaged {
+            place: commit as u64,
+        }),
         Next::Piece { length } => piece_at(alloc, content, commit, length),
     }
 }
@@ -85,7 +87,9 @@ fn piece_at(
     };
     match read {
         Some(batch) => Ok(Some(Found { batch, behind })),
-        None => Err(OpenError::Damaged { place: commit as u64 }),
+        None => Err(OpenError::Damaged {
+            place: commit as u64,
+        }),
     }
 }
 

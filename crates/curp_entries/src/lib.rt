@@ -8,10 +8,10 @@
 //! - One entry is found by one number for each 64, and by at most 63 entries that are read past.
 #![tactic(auto)]
 
+mod encoded;
 mod entries;
 mod prefix;
 mod runs;
-mod encoded;
 
-pub use entries::PackedEntries;
 pub use encoded::has_encoding;
+pub use entries::PackedEntries;

@@ -8,7 +8,7 @@ ghost use Rattle.curp_entries.specs.Requests.{request_at};
 
 use curp_base::{NoMemory, past};
 use curp_cmd::{Entry, Request};
-use curp_items::{pack_entry, read_entry, read_request, encoded};
+use curp_items::{encoded, pack_entry, read_entry, read_request};
 use std::alloc::{AllocError, Global};
 use std::marker::Model;
 

@@ -6,8 +6,8 @@ ghost use Rattle.curp_items.specs.Encoding.{HasEncoding};
 ghost use Rattle.curp_entries.specs.EntryList.{AreLast};
 ghost use Rattle.curp_entries.specs.Packed.{IsShortTail, run};
 
-use crate::prefix::{Prefix, RUN};
 use crate::encoded::has_encoding;
+use crate::prefix::{Prefix, RUN};
 use curp_base::{NoMemory, copies_of, past};
 use curp_cmd::Entry;
 use std::alloc::Global;

@@ -8,10 +8,10 @@
 mod answers;
 mod asking;
 mod config;
+mod encoded;
 mod keeping;
 mod managing;
 mod part;
-mod encoded;
 
-pub use part::{Part, read_parts, write_parts};
 pub use encoded::has_fields;
+pub use part::{Part, read_parts, write_parts};

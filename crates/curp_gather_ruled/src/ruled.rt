@@ -3,8 +3,8 @@ ghost use Rattle.curp_prefixes.specs.Ruled.{AreRuled};
 ghost use Rattle.curp_gather.specs.Journals.{journals_of};
 
 use curp_base::NoMemory;
-use curp_prefixes::are_ruled;
 use curp_gather::{Journals, strands_of};
+use curp_prefixes::are_ruled;
 use std::alloc::Global;
 use std::marker::Model;
 

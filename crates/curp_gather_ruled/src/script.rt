@@ -7,9 +7,9 @@ ghost use Rattle.curp_gather_ruled.specs.Causes.{IsRuledCause};
 
 use crate::{Ruled, RuledError};
 use curp_base::NoMemory;
-use curp_prefixes::ruled_journals_hold;
 use curp_gather::{GatherError, gather_held, strands_of};
 use curp_msg::{Header, Step};
+use curp_prefixes::ruled_journals_hold;
 use std::alloc::Global;
 
 /// The script that the ruled journals of a header's nodes are. An error comes exactly by its cause, the first in the

@@ -34,6 +34,6 @@ pub use item::Item;
 pub use list::{read_list, write_list};
 pub use names::is_node;
 pub use package::{read_package, write_package};
-pub use packed::{EntryError, pack_entry, read_entry, read_request, encoded};
+pub use packed::{EntryError, encoded, pack_entry, read_entry, read_request};
 pub use reader::Reader;
 pub use writer::Writer;

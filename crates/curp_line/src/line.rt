@@ -189,13 +189,7 @@ impl Line {
         self.slots.drop_past(part, cut);
     }
 
-    fn replay(
-        &mut self,
-        standby: &mut Standby,
-        term: Term,
-        cut: u64,
-        replayed: &[Shared<Request>],
-    )
+    fn replay(&mut self, standby: &mut Standby, term: Term, cut: u64, replayed: &[Shared<Request>])
         requires room { length replayed.now ≤ self.old.spare }
         requires ready { length replayed.now ≤ standby.old }
         requires fits { cut + length replayed.now < 2 ^ 64 }

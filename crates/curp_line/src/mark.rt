@@ -109,9 +109,7 @@ impl KeptMark {
         match (completed.by, self.place) {
             (None, MarkPlace::Executed { .. }) => true,
             (Some(by), MarkPlace::Looked { capture, .. } | MarkPlace::Quick { capture }) => {
-                self.term.master == by.master
-                    && self.term.epoch == by.epoch
-                    && capture == by.number
+                self.term.master == by.master && self.term.epoch == by.epoch && capture == by.number
             }
             _ => false,
         }

@@ -9,7 +9,7 @@ use curp_desk::{Carry, Desk, Drive, Posts, Work};
 use curp_msg::Core;
 use curp_nodes::{BackupNode, ClientNode, ManagerNode, MasterNode, WitnessNode};
 use curp_ruled::Take;
-use curp_seat::{Chores, Observer, NoChores};
+use curp_seat::{Chores, NoChores, Observer};
 use std::alloc::Global;
 use std::sync::Wait;
 

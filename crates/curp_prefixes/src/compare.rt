@@ -5,8 +5,8 @@ ghost use Rattle.curp_journal.specs.Sending.{named_of};
 ghost use Rattle.curp_prefixes.specs.Prefixes.{IsPrefixBy};
 ghost use Rattle.curp_prefixes.specs.Ruled.{sent_to, taken_of, to_node};
 
-use crate::prefix::Prefix;
 use crate::next::next_taken;
+use crate::prefix::Prefix;
 use curp_cmd::NodeId;
 use curp_journal::{Item, Named};
 use curp_msg::Message;
@@ -48,7 +48,13 @@ fn none_taken(items: &[Item], from: NodeId) -> bool
 }
 
 /// Compares what these items took first of a node with what an item of it, of that number, sent to them.
-fn after_item<'a>(to: NodeId, items: &'a [Item], from: NodeId, step: u64, other: &Item) -> Prefix<'a>
+fn after_item<'a>(
+    to: NodeId,
+    items: &'a [Item],
+    from: NodeId,
+    step: u64,
+    other: &Item,
+) -> Prefix<'a>
     ensures { IsPrefixBy from items.now (to_node to (named_of from step other.now.stamp 1 other.now.done.sent)) result }
 {
     let mut rest = items;

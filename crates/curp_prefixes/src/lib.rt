@@ -7,8 +7,8 @@
 #![tactic(auto)]
 
 mod compare;
-mod prefix;
 mod next;
+mod prefix;
 mod ruled;
 
 pub use ruled::{are_ruled, ruled_journals_hold};

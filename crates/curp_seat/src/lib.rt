@@ -16,10 +16,10 @@
 
 mod chores;
 mod framed;
-mod observer;
 mod kept;
 mod making;
 mod naming;
+mod observer;
 mod opening;
 mod replay;
 mod running;
@@ -27,8 +27,8 @@ mod took;
 
 pub use chores::{Chores, NoChores};
 pub use framed::Framed;
-pub use observer::{Observer, Unobserved, Point};
 pub use kept::Kept;
 pub use naming::Sent;
+pub use observer::{Observer, Point, Unobserved};
 pub use running::{Made, Running};
 pub use took::Took;

@@ -3,7 +3,7 @@ ghost use Rattle.curp_journal.specs.Journal.{last_stamp};
 ghost use Rattle.curp_journal.specs.Sending.{named_of};
 ghost use Rattle.curp_seat.specs.Making.{item_of, with_item};
 
-use crate::{Observer, Kept, Point, Sent};
+use crate::{Kept, Observer, Point, Sent};
 use curp_base::NoMemory;
 use curp_journal::Arrived;
 use curp_msg::Core;

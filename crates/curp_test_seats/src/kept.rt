@@ -1,7 +1,7 @@
 // Journals of a small node: what is kept, how it is stamped and named, and that its inputs can be given again.
 use crate::asker::{Asker, begun, fetch, sync};
 use curp_journal::{Arrived, Item};
-use curp_seat::{Observer, Kept, Point, Running};
+use curp_seat::{Kept, Observer, Point, Running};
 use std::alloc::Global;
 use std::process::Abort;
 use std::sync::atomic::{AtomicU64, Ordering};

@@ -2,10 +2,10 @@
 #![tactic(auto)]
 
 #[cfg(test)]
-mod observer;
-#[cfg(test)]
 mod gather;
 #[cfg(test)]
 mod made;
+#[cfg(test)]
+mod observer;
 #[cfg(test)]
 mod run;
