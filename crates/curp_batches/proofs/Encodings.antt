@@ -204,7 +204,7 @@ order_begins rest p k b =
     let whole : Begins arrival (1 ∷ rest) (arrived.Local p.0 p.1) (suc k) = record { fits = b.fits; is = ap (λ (l : List ℕ). 1 ∷ l) b.is; size = omega (arith, b.size) } in
     subst (Begins arrival (1 ∷ rest) (arrived.Local p.0 p.1)) (one_more k) whole
 
--- ---- what has a encoding isn't empty
+-- ---- what has an encoding isn't empty
 
 pub arrival_long : (x : Arrived) → 1 ≤ length (arrival.of x)
 unfolding arrival
@@ -255,7 +255,7 @@ stamped_found bytes start after p n h from e is =
 pub stamped_not : (bytes : List ℕ) (start : Input) (why : ReadError) → start ≡ input 0 bytes → ReadsNot why (stamped.read start) → PrefixFails stamped bytes why
 stamped_not bytes start why from e = read_fails stamped stamped_is bytes why (subst (λ (i : Input). ReadsNot why (stamped.read i)) from e)
 
--- a encoding that stands at the start of bytes is no longer than they
+-- an encoding that stands at the start of bytes is no longer than they
 pub prefix_within : {A : Type 0} (f : Format A) (bytes : List ℕ) (x : A) (n : ℕ) → Begins f bytes x n → n ≤ length bytes
 prefix_within f bytes x n b = omega (arith, b.size, ap length b.is, length-append (f.of x) (drop n bytes))
 

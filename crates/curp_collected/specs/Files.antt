@@ -17,7 +17,7 @@ use Rattle.curp_collected.specs.declared.files.Files.{Files}
 
 -- ---- bytes
 
--- the title stands at the start, and a commit behind it
+-- the title stands at the start, and a commit byte behind it
 pub record HasTitle (content : List ℕ) (title : Title) : Type 0 where
   pub is : IsTitle title
   pub starts : StartsJournal content (title_bytes title)

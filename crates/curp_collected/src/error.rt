@@ -12,7 +12,7 @@ use thiserror::Error;
 pub enum CollectError {
     #[error("there is no file")]
     NoFile,
-    /// No title of a node's journal stands at the start, with a commit behind it.
+    /// No title of a node's journal stands at the start, with a commit byte behind it.
     #[error("file {file} is no journal of a node")]
     NotAJournal { file: usize },
     /// Its header isn't that of the first file.

@@ -86,7 +86,7 @@ fn with_titles<'a>(alloc: Global, contents: &'a [Vec<u8>]) -> Result<Vec<File<'a
     Ok(files)
 }
 
-/// The title that stands at the start, with a commit behind it.
+/// The title that stands at the start, with a commit byte behind it.
 #[tactic(auto, using(crate::proofs::Titles::titled, crate::proofs::Titles::too_short, crate::proofs::Titles::not_titled))]
 fn title_at(content: &[u8]) -> Option<Title>
     ensures some { IfSome result (HasTitle content.now) }

@@ -6,7 +6,7 @@ use Rattle.curp_disk.specs.Disk.{Torn, over}
 use Rattle.curp_disk.specs.Moments.{torn_over, length-over}
 use Rattle.curp_durable.specs.Appending.{IsShut, IsStaged}
 
--- a write behind the commit leaves all up to the commit
+-- a write behind the commit byte leaves all up to the commit byte
 pub torn_behind : (old : List ℕ) (commit n : ℕ) (c : List ℕ) → Torn (commit + 1) n old c → IsShut old commit c
 torn_behind old commit n c torn = torn.before
 
@@ -25,7 +25,7 @@ module _ (old : List ℕ) (commit : ℕ) (piece : List ℕ) (within : commit < l
   pub commit_within : commit ≤ length (over old (commit + 1) piece)
   commit_within = omega (arith, within, length-over old (commit + 1) piece (omega (arith, within)))
 
-  -- the commit's own write leaves the record, and any byte in the commit
+  -- the commit byte's own write leaves the record, and any byte in the commit byte
   pub torn_commit : (c : List ℕ) → Torn commit 1 (over old (commit + 1) piece) c → IsStaged old commit piece c
   torn_commit c torn =
       let long = length-over old (commit + 1) piece (omega (arith, within)) in

@@ -41,7 +41,7 @@ same_framed b c x y xs ys has other same =
       sym (drop_at (batch_of b) (x ∷ xs) n refl) ∙ ap (λ (l : List ℕ). drop n l) o.tail ∙ drop_at (batch_of c) (y ∷ ys) n (sym o.long),
     )
 
--- ---- an open commit
+-- ---- an open commit byte
 
 -- ---- the bytes behind a length
 

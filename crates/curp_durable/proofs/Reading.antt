@@ -33,7 +33,7 @@ module _ (content title : List ℕ) (batches : List Batch) (commit : ℕ) (reads
       let len : length (prefix ++ reads.byte ∷ []) ≡ commit + 1 = omega (arith, length-append prefix (reads.byte ∷ []), reads.place) in
       ap (λ (l : List ℕ). take (commit + 1) l) longer ∙ take_at (prefix ++ reads.byte ∷ []) reads.rest (commit + 1) len
 
-  -- whatever stands behind the shut commit
+  -- whatever stands behind the shut commit byte
   pub shut_reads : (c : List ℕ) → IsShut content commit c → ReadsJournal c title batches commit
   shut_reads c same = record {
     byte = reads.byte;
@@ -44,7 +44,7 @@ module _ (content title : List ℕ) (batches : List Batch) (commit : ℕ) (reads
     encoded = reads.encoded;
   }
 
-  -- with this byte in the commit, and these bytes behind it
+  -- with this byte in the commit byte, and these bytes behind it
   with_commit : (c : List ℕ) (byte : ℕ) (behind : List ℕ) → take commit c ≡ take commit content → drop commit c ≡ byte ∷ behind → c ≡ prefix ++ byte ∷ behind
   with_commit c byte behind same back = sym (take-append-drop commit c) ∙ ap (λ (l : List ℕ). l ++ drop commit c) (same ∙ prefix_is) ∙ ap (λ (l : List ℕ). prefix ++ l) back
 
@@ -62,7 +62,7 @@ module _ (content title : List ℕ) (batches : List Batch) (commit : ℕ) (reads
     grown : title ++ records (batches ++ b ∷ []) ≡ prefix ++ 1 ∷ framed b
     grown = ap (λ (l : List ℕ). title ++ l) (records-push batches b) ∙ sym (append_assoc title (records batches) (1 ∷ framed b))
 
-    -- the commit is open, and the whole record stands behind it
+    -- the commit byte is open, and the whole record stands behind it
     pub now_open : (c tail : List ℕ) → take commit c ≡ take commit content → drop commit c ≡ 1 ∷ ((framed b ++ 0 ∷ []) ++ tail) → ReadsJournal c title (batches ++ b ∷ []) (commit + length (framed b ++ 0 ∷ []))
     now_open c tail same back = record {
       byte = 0;

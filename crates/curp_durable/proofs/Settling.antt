@@ -88,6 +88,6 @@ fresh before now_there bytes title short is now =
       };
     }
 
--- a journal whose last commit stands somewhere
+-- a journal whose last commit byte stands somewhere
 pub some_commit : (content title : List ℕ) (inputs : List Arrived) (commit : ℕ) → HoldsUpTo content title inputs commit → HoldsJournal content title inputs
 some_commit content title inputs commit h = record { batches = h.batches; commit = commit; all = h.all; reads = h.reads }

@@ -44,7 +44,7 @@ module _ (content title : List ℕ) where
     at_commit : drop commit content ≡ w.byte ∷ w.rest
     at_commit = ap (λ (l : List ℕ). drop commit l) w.is ∙ drop_at prefix (w.byte ∷ w.rest) commit w.place
 
-    -- with what was found at the commit
+    -- with what was found at the commit byte
     seen_so : (bytes : List ℕ) → drop commit content ≡ bytes → content ≡ prefix ++ bytes
     seen_so bytes is = w.is ∙ ap (λ (l : List ℕ). prefix ++ l) (sym at_commit ∙ is)
 

@@ -16,11 +16,11 @@ use Rattle.curp_durable.specs.declared.error.DurableError.{DurableError}
 use Rattle.curp_durable.specs.declared.error.DurableError.TheVariants as durable
 use Rattle.curp_durable.specs.declared.stand.Answered.{Answered}
 
--- a batch's record: its encoding behind the length of that, and a shut commit
+-- a batch's record: its encoding behind the length of that, and a shut commit byte
 abbrev pub record_of : List Arrived → List ℕ
 record_of b = framed b ++ 0 ∷ []
 
--- where the record of a batch would end behind the commit at this place
+-- where the record of a batch would end behind the commit byte at this place
 abbrev pub end_of : ℕ → List Arrived → ℕ
 end_of commit b = commit + 1 + length (record_of b)
 
@@ -28,7 +28,7 @@ end_of commit b = commit + 1 + length (record_of b)
 abbrev pub HaveNoEncoding : List Arrived → Type 0
 HaveNoEncoding inputs = (Each arrival.Fits inputs → ⊥) ⊎ (2 ^ 32 ≤ length (batch_of inputs))
 
--- the record of a batch, for which there is room behind the commit
+-- the record of a batch, for which there is room behind the commit byte
 abbrev pub IsRecord : (commit size_limit : ℕ) → List Arrived → List ℕ → Type 0
 IsRecord commit size_limit b piece = HasEncoding b × (piece ≡ record_of b) × (commit + 1 + length piece ≤ size_limit)
 

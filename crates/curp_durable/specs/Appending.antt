@@ -1,12 +1,12 @@
--- What a crash leaves while a record is written behind a commit and the commit is opened.
+-- What a crash leaves while a record is written behind a commit byte and the commit byte is opened.
 use Rattle.std.specs.Prelude.{◌≡◌, ◌⊎◌, ℕ, ◌+◌, List, ◌∷◌, ◌++◌, take, drop}
 use Rattle.curp_disk.specs.Disk.{LeavesOnly, Narrows}
 
--- all up to the commit stands as before, whatever stands behind it
+-- all up to the commit byte stands as before, whatever stands behind it
 abbrev pub IsShut : List ℕ → ℕ → List ℕ → Type 0
 IsShut old commit c = take (commit + 1) c ≡ take (commit + 1) old
 
--- all before the commit stands as before, and the record behind it; the commit is any byte
+-- all before the commit byte stands as before, and the record behind it; the commit byte is any byte
 pub record IsStaged (old : List ℕ) (commit : ℕ) (piece c : List ℕ) : Type 0 where
   pub prefix : take commit c ≡ take commit old
   pub any : ℕ

@@ -13,7 +13,7 @@ use Rattle.curp_durable.specs.Standing.{Standing, after, begun}
 abbrev pub Batch : Type 0
 Batch = List Arrived
 
--- the batch has a encoding, and a length for it
+-- the batch has an encoding, and a length for it
 pub record HasEncoding (b : Batch) : Type 0 where
   pub fits : Each arrival.Fits b
   pub short : length (batch_of b) < 2 ^ 32
@@ -25,13 +25,13 @@ behind_length bytes = to_be_bytes w32 (length bytes) ++ bytes
 abbrev pub framed : Batch → List ℕ
 framed b = behind_length (batch_of b)
 
--- records of these batches, each behind its open commit
+-- records of these batches, each behind its open commit byte
 abbrev pub records : List Batch → List ℕ
 records [] = []
 records (b ∷ bs) = 1 ∷ (framed b ++ records bs)
 
--- A journal of these batches: they stand behind the title, each behind its open commit, and behind them stands a commit that
--- isn't open, at this place. What stands behind that commit says nothing.
+-- A journal of these batches: they stand behind the title, each behind its open commit byte, and behind them stands a commit byte that
+-- isn't open, at this place. What stands behind that commit byte says nothing.
 pub record ReadsJournal (content title : List ℕ) (batches : List Batch) (commit : ℕ) : Type 0 where
   pub byte : ℕ
   pub rest : List ℕ
@@ -47,7 +47,7 @@ pub record HoldsJournal (content title : List ℕ) (inputs : List Arrived) : Typ
   pub all : all_of batches ≡ inputs
   pub reads : ReadsJournal content title batches commit
 
--- the same, whose last commit stands at this place
+-- the same, whose last commit byte stands at this place
 pub record HoldsUpTo (content title : List ℕ) (inputs : List Arrived) (commit : ℕ) : Type 0 where
   pub batches : List Batch
   pub all : all_of batches ≡ inputs
@@ -57,11 +57,11 @@ pub record HoldsUpTo (content title : List ℕ) (inputs : List Arrived) (commit 
 abbrev pub IsBeforeOrAfter : List ℕ → List Arrived → List Arrived → List ℕ → Type 0
 IsBeforeOrAfter title inputs more content = HoldsJournal content title inputs ⊎ HoldsJournal content title (inputs ++ more)
 
--- no title is there, with a commit behind it
+-- no title is there, with a commit byte behind it
 abbrev pub IsNotFormatted : List ℕ → List ℕ → Type 0
 IsNotFormatted content title = (byte : ℕ) (rest : List ℕ) → content ≢ title ++ byte ∷ rest
 
--- An open commit at this place isn't followed by a record of a batch
+-- An open commit byte at this place isn't followed by a record of a batch
 pub record IsDamaged (content title : List ℕ) (place : ℕ) : Type 0 where
   pub batches : List Batch
   pub rest : List ℕ
@@ -70,7 +70,7 @@ pub record IsDamaged (content title : List ℕ) (place : ℕ) : Type 0 where
   pub encoded : Each HasEncoding batches
   pub stuck : (b : Batch) (byte : ℕ) (tail : List ℕ) → HasEncoding b → rest ≢ framed b ++ byte ∷ tail
 
--- The disk has the journal of these inputs, all of it kept; its last commit is here, and they led the node from its opening
+-- The disk has the journal of these inputs, all of it kept; its last commit byte is here, and they led the node from its opening
 -- to where it stands
 pub record IsSettled {N D : Type 0} (machine : N → Input → Moved N) (seen : D → List ℕ) (may_leave : D → List ℕ → Type 0) (disk : D) (stand : Standing N) (commit : ℕ) (title : List ℕ) (opening : N) (inputs : List Arrived) : Type 0 where
   pub batches : List Batch

@@ -15,7 +15,7 @@ use Rattle.curp_durable.specs.declared.opening.Next.TheVariants as next
 
 -- ---- one record
 
--- an open commit with a record behind it, and some next commit
+-- an open commit byte with a record behind it, and some next commit byte
 pub record FindsRecord (bytes : List ℕ) (b : Batch) (step : ℕ) : Type 0 where
   pub byte : ℕ
   pub rest : List ℕ
@@ -23,20 +23,20 @@ pub record FindsRecord (bytes : List ℕ) (b : Batch) (step : ℕ) : Type 0 wher
   pub encodes : HasEncoding b
   pub far : step ≡ length (framed b) + 1
 
--- an open commit with no such record
+-- an open commit byte with no such record
 pub record FindsNone (bytes : List ℕ) : Type 0 where
   pub rest : List ℕ
   pub is : bytes ≡ 1 ∷ rest
   pub none : (b : Batch) (byte : ℕ) (tail : List ℕ) → HasEncoding b → rest ≢ framed b ++ byte ∷ tail
 
--- a commit that isn't open
+-- a commit byte that isn't open
 pub record FindsShut (bytes : List ℕ) : Type 0 where
   pub byte : ℕ
   pub rest : List ℕ
   pub is : bytes ≡ byte ∷ rest
   pub shut : byte ≢ 1
 
--- an open commit, and so many bytes behind it and their length, and more
+-- an open commit byte, and so many bytes behind it and their length, and more
 pub record FindsPiece (bytes : List ℕ) (len : ℕ) : Type 0 where
   pub rest : List ℕ
   pub is : bytes ≡ 1 ∷ (to_be_bytes w32 len ++ rest)
@@ -49,12 +49,12 @@ FindsNext bytes next.Shut = FindsShut bytes
 FindsNext bytes (next.Piece len) = FindsPiece bytes len
 FindsNext bytes next.Cut = FindsNone bytes
 
--- the batch that stands at a commit, and where the next commit stands
+-- the batch that stands at a commit byte, and where the next commit byte stands
 abbrev pub FindsBatch : List ℕ → ℕ → Option Found → Type 0
 FindsBatch content commit None = FindsShut (drop commit content)
 FindsBatch content commit (Some found) = (step : ℕ) × FindsRecord (drop commit content) found.batch.items step × (found.behind ≡ commit + step)
 
--- an open commit with no record that can stand there
+-- an open commit byte with no record that can stand there
 abbrev pub FindsNot : List ℕ → ℕ → OpenError → Type 0
 FindsNot content commit opened.NotFormatted = ⊥
 FindsNot content commit (opened.Damaged place) = FindsNone (drop commit content) × (place ≡ commit)
@@ -63,7 +63,7 @@ FindsNot content commit opened.NoMemory = ⊤
 
 -- ---- all records
 
--- A journal of these batches up to a commit of any byte
+-- A journal of these batches up to a commit byte of any byte
 pub record Walked (content title : List ℕ) (commit : ℕ) (batches : List Batch) : Type 0 where
   pub byte : ℕ
   pub rest : List ℕ
@@ -96,7 +96,7 @@ OpensNot content title (opened.Damaged place) = IsDamaged content title place
 OpensNot content title opened.DiskFault = ⊤
 OpensNot content title opened.NoMemory = ⊤
 
--- a title stands at the start, and a commit behind it
+-- a title stands at the start, and a commit byte behind it
 pub record StartsJournal (content title : List ℕ) : Type 0 where
   pub byte : ℕ
   pub rest : List ℕ

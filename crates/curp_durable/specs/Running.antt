@@ -46,7 +46,7 @@ RunsCalls wrote synced calls old kept.NoMemory new = MadeUntil wrote synced did.
 abbrev pub keeping : ℕ → List ℕ → List Call
 keeping at bytes = call.Write at bytes ∷ call.Sync ∷ []
 
--- a record is kept behind a shut commit, and then the commit is opened
+-- a record is kept behind a shut commit byte, and then the commit byte is opened
 abbrev pub appending : ℕ → List ℕ → List Call
 appending commit piece = keeping (commit + 1) piece ++ keeping commit (1 ∷ [])
 
@@ -55,7 +55,7 @@ abbrev pub calls_for : (commit : ℕ) → List Arrived → List Call
 calls_for commit [] = []
 calls_for commit (a ∷ more) = appending commit (record_of (a ∷ more))
 
--- where the last commit then stands
+-- where the last commit byte then stands
 abbrev pub commit_behind : (commit : ℕ) → List Arrived → ℕ
 commit_behind commit [] = commit
 commit_behind commit (a ∷ more) = commit + length (record_of (a ∷ more))

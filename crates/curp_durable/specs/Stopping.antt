@@ -34,7 +34,7 @@ pub record IsStopped (old new : StopParts) (commit k : ℕ) (b : List Arrived) :
 abbrev pub outlives : (k : ℕ) → (unsynced : Bool) → Bool
 outlives k unsynced = (k == 4) && unsynced
 
--- the inputs that are kept, and where the last commit then stands
+-- the inputs that are kept, and where the last commit byte then stands
 abbrev pub kept_inputs : (inputs b : List Arrived) → (k : ℕ) → (unsynced : Bool) → List Arrived
 kept_inputs inputs b k unsynced = if outlives k unsynced then inputs ++ b else inputs
 

@@ -36,7 +36,7 @@ fn is_short(bytes: &[u8]) -> bool
     bytes.len() <= u32::MAX as usize
 }
 
-/// Whether there is room behind a commit for the record of so many bytes.
+/// Whether there is room behind a commit byte for the record of so many bytes.
 fn has_room(commit: u64, size_limit: u64, length: usize) -> bool
     ensures yes { result ≡ true → commit + 6 + length ≤ size_limit }
     ensures no { result ≡ false → size_limit < commit + 6 + length }
@@ -46,7 +46,7 @@ fn has_room(commit: u64, size_limit: u64, length: usize) -> bool
         && size_limit - commit - length as u64 >= 6
 }
 
-/// Bytes behind their length, and a shut commit.
+/// Bytes behind their length, and a shut commit byte.
 fn piece_of(alloc: Global, bytes: &[u8]) -> Result<Vec<u8>, NoMemory>
     requires { length bytes.now < 2 ^ 32 }
     ensures { IfOk result (λ piece. piece.items ≡ behind_length bytes.now ++ 0 ∷ []) }
@@ -57,7 +57,7 @@ fn piece_of(alloc: Global, bytes: &[u8]) -> Result<Vec<u8>, NoMemory>
     Ok(piece)
 }
 
-/// The record of a batch, if a journal takes it and there is room behind the commit.
+/// The record of a batch, if a journal takes it and there is room behind the commit byte.
 #[tactic(auto, using(crate::proofs::Pieces::encoded, crate::proofs::Pieces::full, crate::proofs::Pieces::none_of_one, crate::proofs::Pieces::record_is, crate::proofs::Pieces::too_long))]
 fn record_of(
     alloc: Global,

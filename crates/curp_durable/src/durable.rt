@@ -23,7 +23,7 @@ use curp_msg::{Core, Done, Local};
 use std::alloc::Global;
 use std::marker::Model;
 
-/// How many bytes a journal has at most, its last commit counted, where the caller has no reason for another limit.
+/// How many bytes a journal has at most, its last commit byte counted, where the caller has no reason for another limit.
 pub const SIZE_LIMIT: u64 = 1_073_741_824;
 
 /// A node whose inputs stand on a disk before what it sends goes out. Of its journal it keeps no item in memory.
@@ -32,7 +32,7 @@ pub struct Durable<N: Core, D: Disk> {
     alloc: Global,
     disk: D,
     stand: Stand<N>,
-    // The place of the last commit, which is shut.
+    // The place of the last commit byte, which is shut.
     commit: u64,
     size_limit: u64,
     spent: bool,
@@ -69,7 +69,7 @@ impl<N: Core + Drop, D: Disk> Durable<N, D> {
     /// input, gets the inputs that stand there. It takes memory for the journal's bytes and for what the node holds;
     /// what the node sends is dropped. Nothing is written.
     ///
-    /// The size limit is how many bytes the journal may have, its last commit counted (`SIZE_LIMIT` where the caller has
+    /// The size limit is how many bytes the journal may have, its last commit byte counted (`SIZE_LIMIT` where the caller has
     /// no reason for another). A longer journal is opened too; it takes no more batches.
     pub fn open(
         alloc: Global,

@@ -20,7 +20,7 @@ pub enum OpenError {
     DiskFault,
     /// There is no journal of this title: the title and one byte aren't there.
     NotFormatted,
-    /// The open commit at this place isn't followed by the record of a batch and one byte.
+    /// The open commit byte at this place isn't followed by the record of a batch and one byte.
     Damaged { place: u64 },
     NoMemory,
 }

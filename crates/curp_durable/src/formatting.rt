@@ -42,7 +42,7 @@ pub fn format<D: Disk>(alloc: Global, disk: &mut D, title: &[u8]) -> Result<(), 
     }
 }
 
-/// The title, and a shut commit.
+/// The title, and a shut commit byte.
 fn opening_bytes(alloc: Global, title: &[u8]) -> Result<Vec<u8>, NoMemory>
     ensures { IfOk result (λ bytes. bytes.items ≡ title.now ++ 0 ∷ []) }
 {

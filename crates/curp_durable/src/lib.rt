@@ -1,8 +1,8 @@
 //! Any node outlives its process: what comes to it stands on a disk before what it sends goes out.
 //!
-//! `specs/Journal.antt` says what a journal is: a title, and records of batches of arrivals, each behind a commit of one
-//! byte; what stands behind the first commit that isn't open says nothing. A record is written behind its shut commit and
-//! synced, then the commit is opened by a write of its own and synced.
+//! `specs/Journal.antt` says what a journal is: a title, and records of batches of arrivals, each behind a commit byte of one
+//! byte; what stands behind the first commit byte that isn't open says nothing. A record is written behind its shut commit byte and
+//! synced, then the commit byte is opened by a write of its own and synced.
 //!
 //! - `format` writes an empty journal. `Durable::open` reads one and gives its inputs to a fresh node: `NotFormatted` and
 //!   `Damaged` come exactly where the bytes are so, and never where they are a journal (`journal`). `read_inputs` gives

@@ -14,24 +14,24 @@ use curp_journal::Arrived;
 use curp_msg::Core;
 use std::alloc::Global;
 
-/// A batch behind an open commit, and where the next commit stands.
+/// A batch behind an open commit byte, and where the next commit byte stands.
 #[derive(Drop)]
 pub(crate) struct Found {
     batch: Vec<Arrived>,
     behind: usize,
 }
 
-/// What stands at a commit.
+/// What stands at a commit byte.
 #[derive(Clone, Copy, Debug, PartialEq, Eq)]
 pub(crate) enum Next {
     Shut,
-    /// An open commit, with a length behind it, and so many bytes and more.
+    /// An open commit byte, with a length behind it, and so many bytes and more.
     Piece { length: usize },
-    /// An open commit with too few bytes behind it.
+    /// An open commit byte with too few bytes behind it.
     Cut,
 }
 
-/// What stands at the start of bytes, of which the first is a commit.
+/// What stands at the start of bytes, of which the first is a commit byte.
 fn next_in(bytes: &[u8]) -> Next
     requires { 0 < length bytes.now }
     ensures { FindsNext bytes.now result }
@@ -50,7 +50,7 @@ fn next_in(bytes: &[u8]) -> Next
     }
 }
 
-/// The batch behind a commit; none behind a shut commit.
+/// The batch behind a commit byte; none behind a shut commit byte.
 fn batch_at(alloc: Global, content: &[u8], commit: usize) -> Result<Option<Found>, OpenError>
     requires within { commit < length content.now }
     ensures ok { IfOk result (FindsBatch content.now commit) }
@@ -67,7 +67,7 @@ fn batch_at(alloc: Global, content: &[u8], commit: usize) -> Result<Option<Found
     }
 }
 
-/// The batch whose encoding the so many bytes behind a commit and their length are.
+/// The batch whose encoding the so many bytes behind a commit byte and their length are.
 fn piece_at(
     alloc: Global,
     content: &[u8],
@@ -93,7 +93,7 @@ fn piece_at(
     }
 }
 
-/// Walks along the journal from its first commit on, and gives the node what stands there.
+/// Walks along the journal from its first commit byte on, and gives the node what stands there.
 fn walk<N: Core + Drop>(
     alloc: Global,
     content: &[u8],
@@ -122,7 +122,7 @@ fn walk<N: Core + Drop>(
     }
 }
 
-/// Reads the journal of a title and gives its inputs to a fresh node; also says where the last commit stands.
+/// Reads the journal of a title and gives its inputs to a fresh node; also says where the last commit byte stands.
 pub(crate) fn replay<N: Core + Drop>(
     alloc: Global,
     content: &[u8],
@@ -141,7 +141,7 @@ pub(crate) fn replay<N: Core + Drop>(
     }
 }
 
-/// Walks along the journal from its first commit on, and collects what stands there.
+/// Walks along the journal from its first commit byte on, and collects what stands there.
 fn collect(alloc: Global, content: &[u8], title: &[u8]) -> Result<Vec<Arrived>, OpenError>
     requires starts { StartsJournal content.now title.now }
     ensures ok { IfOk result (λ inputs. HoldsJournal content.now title.now inputs.items) }
@@ -163,7 +163,7 @@ fn collect(alloc: Global, content: &[u8], title: &[u8]) -> Result<Vec<Arrived>, 
 }
 
 /// The inputs of the journal of a title, which these bytes begin with. It takes memory for the inputs. Bytes that were read
-/// of a file to which a node still writes are a journal too, of the inputs up to a commit that wasn't open yet.
+/// of a file to which a node still writes are a journal too, of the inputs up to a commit byte that wasn't open yet.
 pub fn inputs_in(alloc: Global, content: &[u8], title: &[u8]) -> Result<Vec<Arrived>, OpenError>
     ensures ok { IfOk result (λ inputs. HoldsJournal content.now title.now inputs.items) }
     ensures err { IfErr result (OpensNot content.now title.now) }
@@ -176,7 +176,7 @@ pub fn inputs_in(alloc: Global, content: &[u8], title: &[u8]) -> Result<Vec<Arri
     }
 }
 
-/// Whether the title stands at the start, and a commit behind it.
+/// Whether the title stands at the start, and a commit byte behind it.
 #[tactic(auto, using(crate::proofs::Walking::title_there, crate::proofs::Walking::title_other, crate::proofs::Walking::title_short))]
 fn starts(content: &[u8], title: &[u8]) -> bool
     ensures yes { result ≡ true → StartsJournal content.now title.now }
@@ -253,7 +253,7 @@ pub(crate) fn contents<D: Disk>(alloc: Global, disk: &mut D) -> Result<Vec<u8>, 
     prefix_of(alloc, disk, size)
 }
 
-/// Reads the journal on a disk and gives its inputs to a fresh node; also says where the last commit stands.
+/// Reads the journal on a disk and gives its inputs to a fresh node; also says where the last commit byte stands.
 pub(crate) fn recover<N: Core + Drop, D: Disk>(
     alloc: Global,
     disk: &mut D,

@@ -1,4 +1,4 @@
-//! Records behind commits.
+//! Records behind commit bytes.
 ghost use Rattle.std.specs.Prelude.{◌≡◌, ◌≢◌, ◌+◌, ◌^◌, ◌<◌, ◌≤◌, [], ◌∷◌, length, true};
 ghost use Rattle.curp_disk.specs.Disk.{LeavesOnly, Only, Torn, over};
 ghost use Rattle.curp_io.specs.Streams.{Rose};
@@ -39,7 +39,7 @@ pub(crate) fn keep<D: Disk>(disk: &mut D, at: u64, bytes: &[u8]) -> Kept
     }
 }
 
-/// Writes a record behind a commit, and then opens the commit.
+/// Writes a record behind a commit byte, and then opens the commit byte.
 pub(crate) fn append<D: Disk>(disk: &mut D, commit: u64, piece: &[u8]) -> Kept
     requires commit { D.tells ≡ true → commit < length (D.seen disk.old) }
     requires place { commit + 1 < 2 ^ 64 }

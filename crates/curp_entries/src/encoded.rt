@@ -3,7 +3,7 @@ ghost use Rattle.curp_items.specs.Encoding.{HasPackageEncoding, HasEncoding, Has
 
 use curp_cmd::{Entry, Package, TablePart};
 
-/// Whether the entry has a encoding: none has one of whose package a list is too long for its count, which has 32 bits.
+/// Whether the entry has an encoding: none has one of whose package a list is too long for its count, which has 32 bits.
 pub fn has_encoding(entry: &Entry) -> bool
     ensures { IsTrue result ↔ HasEncoding entry.now }
 {

@@ -49,7 +49,7 @@ fn next_run(tail: &[Entry]) -> Option<&[Entry]>
     }
 }
 
-/// Whether each of the entries has a encoding.
+/// Whether each of the entries has an encoding.
 fn are_encoded(entries: &[Entry]) -> bool
     ensures { IsTrue result ↔ Each HasEncoding entries.now }
 {

@@ -1,4 +1,4 @@
--- A body whose fields pass the test has a encoding, and one that has a encoding passes.
+-- A body whose fields pass the test has an encoding, and one that has an encoding passes.
 use Rattle.std.proofs.Common.{◌≡◌, ℕ, ◌^◌, ◌<◌, ◌≤◌, Bool, true, ◌&&◌, List, [], ◌∷◌, length, refl, arith}
 use Rattle.std.proofs.lemmas.Bool.{and_from, and_parts, leb-true, le-leb}
 use Rattle.std.specs.List.{list_all}
@@ -22,7 +22,7 @@ use Rattle.curp_fields.specs.Fields.{append_fields, body_parts, collected_fields
 use Rattle.curp_fields.specs.Encoded.{are_encoded_entries, are_encoded_nodes, has_count, has_fields, is_encoded_collection, is_encoded_config, is_encoded_entry, is_encoded_package, is_encoded_part, is_encoded_recover, is_encoded_reply}
 use Rattle.curp_fields.specs.Encoding.{AreEntries, AreNodes, HasFields, IsCollection, IsConfig, IsFenceReply, IsNamed, IsPart, IsRecover}
 
--- ---- what passes has a encoding
+-- ---- what passes has an encoding
 
 counts : (n : ℕ) → has_count n ≡ true → n < 2 ^ 32
 counts n h = omega (arith, leb-true n 4294967295 h)
@@ -105,7 +105,7 @@ fields_of (body.Taken parcel) h = package_of parcel.package h
 fields_of (body.GiveIn parcel) h = package_of parcel.package h
 fields_of _ h = tt
 
--- ---- what has a encoding passes
+-- ---- what has an encoding passes
 
 counted : (n : ℕ) → u32.Fits n → has_count n ≡ true
 unfolding u32

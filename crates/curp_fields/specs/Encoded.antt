@@ -1,4 +1,4 @@
--- Which bodies have a encoding, as a test: those whose nodes there may be, and whose lists are short enough for their counts.
+-- Which bodies have an encoding, as a test: those whose nodes there may be, and whose lists are short enough for their counts.
 use Rattle.std.specs.Prelude.{ℕ, nat_le, ◌&&◌, Bool, true, List, length}
 use Rattle.std.specs.List.{list_all}
 use Rattle.curp_cmd.specs.declared.entry.Entry.{Entry}
@@ -64,7 +64,7 @@ abbrev pub is_encoded_reply : FenceReply → Bool
 is_encoded_reply (fence.Log log) = are_encoded_entries log
 is_encoded_reply (fence.Fenced epoch) = true
 
--- the fields of a body have a encoding
+-- the fields of a body have an encoding
 abbrev pub has_fields : Body → Bool
 has_fields (body.Configuration config) = is_encoded_config config
 has_fields (body.Append append) = are_encoded_entries append.entries

@@ -1,4 +1,4 @@
--- Which messages have a encoding: those whose nodes there may be, and whose lists are short enough for their counts.
+-- Which messages have an encoding: those whose nodes there may be, and whose lists are short enough for their counts.
 use Rattle.std.specs.Prelude.{◌≡◌, ℕ, ◌<◌, ◌^◌, true, List, length, ⊤}
 use Rattle.curp_base.specs.Words.{Each}
 use Rattle.curp_cmd.specs.declared.entry.Entry.{Entry}
@@ -61,7 +61,7 @@ pub record IsPrepare (prepare : Prepare) : Type 0 where
   pub backups : AreNodes prepare.backups
   pub witnesses : AreNodes prepare.witnesses
 
--- the fields of a body have a encoding
+-- the fields of a body have an encoding
 abbrev pub HasFields : Body → Type 0
 HasFields (body.Configuration config) = IsConfig config
 HasFields (body.Append append) = AreEntries append.entries

@@ -1,4 +1,4 @@
-//! Which bodies have a encoding.
+//! Which bodies have an encoding.
 ghost use Rattle.std.specs.Prelude.{◌≡◌, true};
 ghost use Rattle.std.specs.List.{list_all};
 ghost use Rattle.curp_items.specs.Items.{is_node};
@@ -15,7 +15,7 @@ use curp_msg::{Body, Config, FenceReply, GcAnswer, PartConfig, Recover};
 /// The greatest number of elements of a list: its count has 32 bits.
 const COUNT_LIMIT: usize = 4_294_967_295;
 
-/// Whether the fields of a body have a encoding: each list has at most 4,294,967,295 elements, and each node in them is one
+/// Whether the fields of a body have an encoding: each list has at most 4,294,967,295 elements, and each node in them is one
 /// that there may be. It reads the body once, and copies nothing.
 pub fn has_fields(body: &Body) -> bool
     ensures test { result ≡ has_fields body.now }

@@ -17,7 +17,7 @@ pub trait Part: Sized {
     /// How it is encoded and read.
     ghost format: { Format Self };
 
-    /// Which values of the type have a encoding.
+    /// Which values of the type have an encoding.
     ghost HasEncoding: { Self → Type 0 };
 
     /// Writes the part's encoding.

@@ -17,7 +17,7 @@ IsByte n = n < 256
 abbrev pub input : ℕ → List ℕ → Input
 input place rest = record { place = place; rest = rest }
 
--- a encoding of the value was taken from the prefix
+-- an encoding of the value was taken from the prefix
 pub record Takes {A : Type 0} (f : Format A) (at : Input) (x : A) (after : Input) : Type 0 where
   pub fits : f.Fits x
   pub rest : at.rest ≡ f.of x ++ after.rest

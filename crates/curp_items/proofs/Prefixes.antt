@@ -69,7 +69,7 @@ pub found_of : (o : Option Request) (P : Request → Type 0) → ((r : Request) 
 found_of None P h = tt
 found_of (Some r) P h = h r refl
 
--- bytes that begin with a encoding are read, unless memory runs out
+-- bytes that begin with an encoding are read, unless memory runs out
 pub not_read : (bytes : List ℕ) (e : Entry) (len : ℕ) → BeginsWithEntry bytes e len → (w : ReadError) → ReadsNot w (entry.read (start_of bytes)) → entry_error w ≡ why.NoMemory
 not_read bytes e len b error.NoMemory n = refl
 not_read bytes e len b (error.Fault place) n =

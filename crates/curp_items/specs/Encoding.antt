@@ -1,4 +1,4 @@
--- Entries as bytes: which have a encoding, which it is, and which stands at the prefix of bytes.
+-- Entries as bytes: which have an encoding, which it is, and which stands at the prefix of bytes.
 use Rattle.std.specs.Prelude.{◌≡◌, ℕ, ◌<◌, ◌≤◌, ◌^◌, List, length, take, Option, Some, None, Result, Ok, Err, ⊤}
 use Rattle.std.specs.Ordering.{nat_cmp}
 use Rattle.curp_base.specs.Words.{Ascend, KeysAscend}
@@ -25,14 +25,14 @@ pub record HasPackageEncoding (p : Package) : Type 0 where
   pub pairs : length p.pairs < 2 ^ 32
   pub table : HasTableEncoding p.table
 
--- which entries have a encoding: all but those with a package of which a list is too long for its count
+-- which entries have an encoding: all but those with a package of which a list is too long for its count
 abbrev pub HasEncoding : Entry → Type 0
 HasEncoding (Op request acknowledge) = ⊤
 HasEncoding (Take migration taken) = HasPackageEncoding taken
 HasEncoding (Give migration given) = HasPackageEncoding given
 HasEncoding (Expire client) = ⊤
 
--- An entry that has a encoding, whose numbers, keys and values are in their ranges and whose lists ascend, as those of
+-- An entry that has an encoding, whose numbers, keys and values are in their ranges and whose lists ascend, as those of
 -- each value of the type
 abbrev pub IsEntry : Entry → Type 0
 IsEntry e = entry.Fits e

@@ -1,4 +1,4 @@
--- Binary formats: which values have a encoding, which it is, and how values are read from the prefix of bytes.
+-- Binary formats: which values have an encoding, which it is, and how values are read from the prefix of bytes.
 use Rattle.std.specs.Prelude.{◌≡◌, ℕ, zero, suc, ◌+◌, ◌<◌, ◌^◌, ◌==◌, nat_lt, nat_le, ◌&&◌, if◌then◌else◌, Bool, true, false, List, [], ◌∷◌, ◌++◌, length, take, drop, Option, Some, None, option_map, Result, Ok, Err, ⊤}
 use Rattle.std.specs.Int.{Width, byte_len, to_be_bytes, from_be_bytes}
 use Rattle.std.specs.List.{flat_map}
@@ -15,7 +15,7 @@ pub record Input : Type 0 where
 abbrev pub Reading : Type 0 → Type 0
 Reading A = Input → Result (A × Input) ℕ
 
--- A format: which values have a encoding, which it is, and how one is read
+-- A format: which values have an encoding, which it is, and how one is read
 pub record Format (A : Type 0) : Type 1 where
   pub Fits : A → Type 0
   pub of : A → List ℕ

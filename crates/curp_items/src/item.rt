@@ -11,7 +11,7 @@ pub trait Item: Copy {
     /// How it is encoded and read.
     ghost format: { Format Self };
 
-    /// Which values of the type have a encoding.
+    /// Which values of the type have an encoding.
     ghost HasEncoding: { Self → Type 0 };
 
     /// Writes the value's encoding.

@@ -32,7 +32,7 @@ title_for h = title_bytes (record { node = manager_node; header = h })
 abbrev pub Keeps : Header → DurableParts ManagerState StopParts → List Arrived → Type 0
 Keeps h d inputs = IsSettled manager_machine stop_seen StopLeaves d.disk d.stand d.commit (title_for h) (opening_manager (shape_of h)) inputs
 
--- what a disk reads as is a journal of these inputs, whose last commit stands here
+-- what a disk reads as is a journal of these inputs, whose last commit byte stands here
 abbrev pub IsJournalOn : Header → StopParts → List Arrived → ℕ → Type 0
 IsJournalOn h disk inputs commit = HoldsUpTo (seen_of disk.played) (title_for h) inputs commit
 

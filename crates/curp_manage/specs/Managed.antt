@@ -44,7 +44,7 @@ abbrev pub input_stopped : Managed → Moved ManagerState → Bool → LineDone
 input_stopped m r true = record { now = record m { state = r.state; decisions = m.decisions + 1; crash = None }; outcome = outcome.Stopped true }
 input_stopped m r false = record { now = record m { crash = None }; outcome = outcome.Stopped false }
 
--- An input is kept in four calls: its record is written, and synced, the commit before it is opened, and that is synced. Where
+-- An input is kept in four calls: its record is written, and synced, the commit byte before it is opened, and that is synced. Where
 -- the last of them is stopped, and what isn't synced outlives the crash, the input does.
 abbrev pub keeps_input : Crash → Bool
 keeps_input c = (c.call == 4) && c.kept

@@ -13,7 +13,7 @@ pub trait Observer {
     fn reach(&self, point: Point);
 }
 
-/// A observer that holds nothing.
+/// An observer that holds nothing.
 #[derive(Clone, Copy)]
 pub struct Unobserved;
 

@@ -124,7 +124,7 @@ fn try_to_fill(rt: &impl Abort, alloc: Global, durable: &mut Durable<BackupNode,
     assert_eq!(rt; keeps(rt, alloc, durable, 1), Err(DurableError::Full));
 }
 
-/// A message has 49 bytes, a batch 13 more, the title and the last commit 5: with a fourth message the journal has 227.
+/// A message has 49 bytes, a batch 13 more, the title and the last commit byte 5: with a fourth message the journal has 227.
 #[test]
 fn a_journal_may_be_full(rt: HostRuntime) {
     let alloc = rt.alloc();

@@ -58,7 +58,7 @@ fn told_by_batch(
 }
 
 /// Writing the journal asks for the length, writes and syncs; opening it syncs, asks for the length and reads; a batch is
-/// written and synced, and then its commit.
+/// written and synced, and then its commit byte.
 #[test]
 fn each_call_of_a_disk_that_fails_is_told(rt: HostRuntime) {
     for failing in 1..=11 {

@@ -95,7 +95,7 @@ fn error_of(rt: &impl Abort, alloc: Global, disk: MemoryDisk) -> Option<OpenErro
     }
 }
 
-/// An empty disk; and an empty journal whose commit was opened with nothing behind it.
+/// An empty disk; and an empty journal whose commit byte was opened with nothing behind it.
 #[test]
 fn what_is_no_journal_is_told(rt: HostRuntime) {
     let alloc = rt.alloc();

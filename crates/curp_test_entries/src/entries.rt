@@ -111,7 +111,7 @@ fn cuts_are_told(alloc: Global, encoding: &Encoded) -> bool {
     true
 }
 
-// ---- changes of a encoding
+// ---- changes of an encoding
 
 /// Whether another entry was read, which has these bytes.
 fn is_another(

@@ -490,7 +490,7 @@ fn try_encoded_rest(rt: &impl Abort, alloc: Global, found: &[u8]) {
 
 // ---- What has no encoding
 
-/// Whether the entry has a encoding. No memory holds a list that is too long for its count, so what is told of such an entry
+/// Whether the entry has an encoding. No memory holds a list that is too long for its count, so what is told of such an entry
 /// is proved of the rule.
 fn is_encoded(entry: &Entry) -> bool
     ensures pairs { (migration : ℕ) (taken : Package) → entry.now ≡ Take migration taken
@@ -502,7 +502,7 @@ fn is_encoded(entry: &Entry) -> bool
 }
 
 #[test]
-fn small_entries_have_a_encoding(rt: HostRuntime) {
+fn small_entries_have_an_encoding(rt: HostRuntime) {
     let small = entries(&rt, rt.alloc(), 8);
     try_encoded(&rt, &small);
     drop(small);

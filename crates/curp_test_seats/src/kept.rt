@@ -66,7 +66,7 @@ fn inputs_are_given_again(rt: HostRuntime) {
     drop(made);
 }
 
-// A observer that counts how often it hears of a step that isn't the next one.
+// An observer that counts how often it hears of a step that isn't the next one.
 #[derive(Drop)]
 struct Numbering {
     heard: AtomicU64,

@@ -1,4 +1,4 @@
-// A observer that counts the steps it hears of. At its wish the first steps of the first master and the first witness meet at
+// An observer that counts the steps it hears of. At its wish the first steps of the first master and the first witness meet at
 // it: each is held until the other is due.
 use curp_cmd::{NodeId, NodeKind};
 use curp_seat::{Observer, Point};

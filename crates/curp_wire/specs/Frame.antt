@@ -31,7 +31,7 @@ pub record Frame (m : Message) (bytes : List ℕ) : Type 0 where
   pub short : length (content m) ≤ content_limit
   pub is : bytes ≡ to_be_bytes w32 (length (content m)) ++ content m
 
--- the tag, the sender, the addressee and the fields have a encoding: each node is one that there may be, and each list is
+-- the tag, the sender, the addressee and the fields have an encoding: each node is one that there may be, and each list is
 -- short enough for its count
 abbrev pub has_content : Message → Bool
 has_content m = is_node m.from && is_node m.to && has_fields m.body

@@ -11,7 +11,7 @@ use curp_items::{Item, ReadError, Reader, Writer, is_node};
 use curp_msg::Message;
 use std::alloc::Global;
 
-/// Whether the tag, the sender, the addressee and the fields have a encoding.
+/// Whether the tag, the sender, the addressee and the fields have an encoding.
 pub(crate) fn has_content(message: &Message) -> bool
     ensures test { result ≡ has_content message.now }
     ensures encoded { result ≡ true → HasContent message.now }
