@@ -2,7 +2,7 @@
 use Rattle.std.proofs.Common.{◌≡◌, ◌+◌, ◌≤◌, ℕ, zero, suc, if◌then◌else◌, is_some, List, ◌∷◌, length, take, drop, get_or, ap, sym, ◌∙◌, subst, add-one, length-append, ◌↔◌, ◌<◌, arith}
 use Rattle.std.proofs.Math.Seq.{drop-cons}
 use Rattle.curp_journal.specs.declared.item.Item.{Item}
-use Rattle.curp_turns.specs.Work.{invoked_by, invoked_in}
+use Rattle.curp_journal.specs.Work.{invoked_by, invoked_in}
 use Rattle.curp_anew.specs.Live.{completed_count, most_pending}
 
 -- so many were invoked and completed before

@@ -15,7 +15,7 @@ use Rattle.curp_model.specs.World.{opening}
 use Rattle.curp_msg.specs.Moved.{Node}
 use Rattle.curp_journal.specs.Journal.{NodeJournal}
 use Rattle.curp_model.specs.Client.{ClientState}
-use Rattle.curp_turns.specs.Turns.{Journal}
+use Rattle.curp_journal.specs.Turns.{Journal}
 use Rattle.curp_law_weave.specs.Run.{ordered_in}
 use Rattle.curp_gather.specs.Journals.{AreOf, IsBackupJournal, IsClientJournal, IsManagerJournal, IsMasterJournal, IsWitnessJournal, journal_of, journals_of}
 use Rattle.curp_gather.specs.declared.journals.Journals.{Journals}

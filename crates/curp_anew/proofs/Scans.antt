@@ -10,7 +10,7 @@ use Rattle.curp_msg.specs.Moved.{Node}
 use Rattle.curp_journal.specs.Journal.{NodeJournal}
 use Rattle.curp_journal.specs.declared.item.Item.{Item}
 use Rattle.curp_model.specs.Client.{ClientState}
-use Rattle.curp_turns.specs.Work.{DidWork}
+use Rattle.curp_journal.specs.Work.{DidWork}
 use Rattle.curp_anew.specs.Opening.{AllOwn, HaveJournals, IsAdded, IsAnew, IsOneOf, NamesRise}
 
 -- below one more is below, or there

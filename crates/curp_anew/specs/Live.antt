@@ -11,8 +11,8 @@ use Rattle.curp_msg.specs.declared.machine.Local.TheVariants.{Recover}
 use Rattle.curp_journal.specs.Journal.{NodeJournal}
 use Rattle.curp_journal.specs.declared.item.Item.{Item}
 use Rattle.curp_model.specs.Client.{ClientState}
-use Rattle.curp_turns.specs.Turns.{Journal}
-use Rattle.curp_turns.specs.Work.{DidWork, invoked_in}
+use Rattle.curp_journal.specs.Turns.{Journal}
+use Rattle.curp_journal.specs.Work.{DidWork, invoked_in}
 use Rattle.curp_law_weave.specs.Run.{ordered_in}
 use Rattle.curp_gather.specs.Journals.{AreOf, journals_of}
 use Rattle.curp_gather.specs.declared.journals.Journals.{Journals}

@@ -1,14 +1,14 @@
 ghost use Rattle.std.specs.Prelude.{◌≡◌, ◌≢◌, ◌↔◌, ℕ, List, ◌+◌, ◌^◌, ◌<◌, ◌≤◌, ◌++◌, if◌then◌else◌, is_some, length, map, None, IsTrue, IfSome};
 ghost use Rattle.curp_base.specs.Words.{Each};
 ghost use Rattle.curp_cmd.specs.declared.command.Command.{Command};
-ghost use Rattle.curp_turns.specs.Work.{DidWork, IsCompletedIn, invoked_by, invoked_in};
+ghost use Rattle.curp_journal.specs.Work.{DidWork, IsCompletedIn, invoked_by, invoked_in};
 ghost use Rattle.curp_anew.specs.Live.{DidInOrder, FewPending};
 
 use curp_cmd::{Command, RequestId};
 use curp_journal::{Arrived, Item};
 use curp_msg::Local;
 use curp_nodes::ClientNode;
-use curp_policy::PENDING_AT_ONCE;
+use curp_opening::PENDING_AT_ONCE;
 use curp_same::Same;
 use curp_seat::Kept;
 

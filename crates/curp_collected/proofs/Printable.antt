@@ -11,7 +11,7 @@ use Rattle.curp_msg.specs.declared.script.Step.TheVariants.{Collect, Deliver, Ex
 use Rattle.curp_journal.specs.Journal.{NodeJournal}
 use Rattle.curp_nodes.specs.Machines.{backup_machine, client_machine, master_machine, witness_machine}
 use Rattle.curp_script.specs.Printed.{NamesNode}
-use Rattle.curp_turns.specs.Turns.{Journal}
+use Rattle.curp_journal.specs.Turns.{Journal}
 use Rattle.curp_law_weave.specs.Run.{StopsEnded}
 use Rattle.curp_gather.specs.Journals.{journal_of, journals_of}
 use Rattle.curp_gather.specs.declared.journals.Journals.{Journals}

@@ -124,7 +124,7 @@ pub mod journal {
 
 /// The numbers of a policy: when orders are given.
 pub mod policy {
-    pub use curp_policy::{COLLECT_AFTER, PENDING_AT_ONCE, SYNC_AFTER};
+    pub use curp_opening::{COLLECT_AFTER, PENDING_AT_ONCE, SYNC_AFTER};
 }
 
 /// A world of nodes that takes the steps of a script.

@@ -8,7 +8,7 @@ use Rattle.curp_law_weave.proofs.Weaving.{legal_runs}
 use Rattle.curp_merge.specs.Causes.{IsCause}
 use Rattle.curp_merge.specs.Merging.{AreJournals, Merged, turn_count, weight_sent}
 use Rattle.curp_merge.specs.declared.error.GatherError.{GatherError}
-use Rattle.curp_turns.specs.Turns.{Journal}
+use Rattle.curp_journal.specs.Turns.{Journal}
 use Rattle.curp_gather.specs.Journals.{AreOf, IsScriptOf, journals_of}
 use Rattle.curp_gather.specs.Replays.{AreReplayed}
 use Rattle.curp_gather.specs.declared.journals.Journals.{Journals}

@@ -17,7 +17,7 @@ use Rattle.curp_model.specs.Witness.{WitnessState, fresh_witness}
 use Rattle.curp_model.specs.World.{opening}
 use Rattle.curp_msg.specs.Limits.{weight_limit}
 use Rattle.curp_journal.specs.Journal.{IsJournal, NodeJournal, Stamped}
-use Rattle.curp_turns.specs.Turns.{AreApart, Journal, Placed}
+use Rattle.curp_journal.specs.Turns.{AreApart, Journal, Placed}
 use Rattle.curp_law_weave.specs.NodeStates.{ABackup, AClient, AManager, AMaster, AWitness, NodeState, machine_of, opening_of, state_of}
 use Rattle.curp_law_weave.specs.Openings.{ComesAs, OpensAs}
 use Rattle.curp_law_weave.specs.Run.{IsJournalOf, Legal, RunOf, TakesFirst}

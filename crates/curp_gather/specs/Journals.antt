@@ -14,7 +14,7 @@ use Rattle.curp_model.specs.Recovery.{Fresh, MasterStage}
 use Rattle.curp_model.specs.Witness.{WitnessState, fresh_witness}
 use Rattle.curp_model.specs.World.{opening}
 use Rattle.curp_msg.specs.Script.{IsHeader}
-use Rattle.curp_turns.specs.Turns.{InOrder, Journal, Placed}
+use Rattle.curp_journal.specs.Turns.{InOrder, Journal, Placed}
 use Rattle.curp_law_weave.specs.Run.{RunOf, TakesFirst}
 use Rattle.curp_merge.specs.Merging.{NameTaken}
 use Rattle.curp_journal.specs.Own.{IsOwn}

@@ -21,9 +21,9 @@ use Rattle.curp_journal.specs.Journal.{last_stamp}
 use Rattle.curp_journal.specs.declared.arrived.Arrived.{Arrived}
 use Rattle.curp_journal.specs.declared.arrived.Arrived.TheVariants as arrived
 use Rattle.curp_journal.specs.declared.item.Item.{Item}
-use Rattle.curp_turns.specs.Legal.{deed_for}
-use Rattle.curp_turns.specs.Turns.{Did, IsKnown, Journal, Placed, Quits, Turn, completed_by, of, turns_of}
-use Rattle.curp_turns.specs.Work.{IsCompletedIn, commands_among, invocations, invoked_by, invoked_in, ordered, orders_to, recoveries, recoveries_among, recoveries_in, recovery_by}
+use Rattle.curp_journal.specs.Legal.{deed_for}
+use Rattle.curp_journal.specs.Turns.{Did, IsKnown, Journal, Placed, Quits, Turn, completed_by, of, turns_of}
+use Rattle.curp_journal.specs.Work.{IsCompletedIn, commands_among, invocations, invoked_by, invoked_in, ordered, orders_to, recoveries, recoveries_among, recoveries_in, recovery_by}
 use Rattle.curp_law_weave.specs.Run.{HasEnded, IsCompletedBy, RunOf, Runs, StopsEnded, completions, ordered_by, ordered_in}
 
 -- ---- orders

@@ -3,7 +3,7 @@ use Rattle.std.proofs.Common.{◌≡◌, ℕ, if◌then◌else◌, Bool, true, f
 use Rattle.std.specs.Prelude.{⊤}
 use Rattle.curp_base.specs.Words.{At}
 use Rattle.curp_journal.specs.declared.item.Item.{Item}
-use Rattle.curp_turns.specs.Turns.{Did, Quits, Turn}
+use Rattle.curp_journal.specs.Turns.{Did, Quits, Turn}
 
 -- ---- the items among turns
 

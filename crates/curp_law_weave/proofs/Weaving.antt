@@ -43,9 +43,9 @@ use Rattle.curp_journal.specs.declared.arrived.Arrived.TheVariants as arrived
 use Rattle.curp_journal.specs.declared.item.Item.{Item}
 use Rattle.curp_journal.proofs.Replays.{after-snoc, done_at}
 use Rattle.curp_law_weave.specs.NodeStates.{ABackup, AClient, AManager, AMaster, AWitness, NodeState, fresh_state, machine_of, opening_of, state_by, state_of}
-use Rattle.curp_turns.specs.Legal.{LegalFrom, deed_for}
-use Rattle.curp_turns.specs.Turns.{Did, IsKnown, Journal, Placed, Quits, Turn, of, said, turns_of}
-use Rattle.curp_turns.proofs.Turns.{of-append, of_first, of_here, of_there, said-append, said-snoc}
+use Rattle.curp_journal.specs.Legal.{LegalFrom, deed_for}
+use Rattle.curp_journal.specs.Turns.{Did, IsKnown, Journal, Placed, Quits, Turn, of, said, turns_of}
+use Rattle.curp_journal.proofs.Turns.{of-append, of_first, of_here, of_there, said-append, said-snoc}
 use Rattle.curp_law_weave.specs.Run.{IsJournalOf, IsMade, Legal, RunOf, Runs, TakesFirst}
 use Rattle.curp_law_weave.proofs.Expiring.{expired_client}
 use Rattle.curp_law_weave.proofs.Moves.{Moves, gives_done, manager_there, move_says, moved, stop_done, stop_is, stop_world}

@@ -20,8 +20,8 @@ use Rattle.curp_journal.specs.Own.{IsArrivedMessage}
 use Rattle.curp_journal.specs.declared.arrived.Arrived.{Arrived}
 use Rattle.curp_journal.specs.declared.arrived.Arrived.TheVariants as arrived
 use Rattle.curp_journal.specs.declared.item.Item.{Item}
-use Rattle.curp_turns.specs.Legal.{LegalFrom, deed_for}
-use Rattle.curp_turns.specs.Turns.{AreApart, AreTurns, Journal, Placed, completed_by, said, sent_by}
+use Rattle.curp_journal.specs.Legal.{LegalFrom, deed_for}
+use Rattle.curp_journal.specs.Turns.{AreApart, AreTurns, Journal, Placed, completed_by, said, sent_by}
 use Rattle.curp_law_weave.specs.NodeStates.{machine_of, opening_of, state_of}
 
 -- ---- runs

@@ -28,8 +28,8 @@ ghost use Rattle.curp_model.specs.World.{opening};
 ghost use Rattle.curp_msg.specs.Moved.{Node};
 ghost use Rattle.curp_msg.specs.declared.script.Header.{Header};
 ghost use Rattle.curp_msg.specs.declared.script.Step.{Step};
-ghost use Rattle.curp_turns.specs.Turns.{Journal, Placed};
-ghost use Rattle.curp_turns.specs.Work.{IsCompletedIn, invocations, invoked_in, recoveries, recoveries_in};
+ghost use Rattle.curp_journal.specs.Turns.{Journal, Placed};
+ghost use Rattle.curp_journal.specs.Work.{IsCompletedIn, invocations, invoked_in, recoveries, recoveries_in};
 
 /// Steps that have the turns of journals in an order that is legal as lists are a run of the journals.
 pub fn legal_steps_are_a_run()

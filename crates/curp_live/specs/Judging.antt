@@ -1,7 +1,7 @@
 -- Journals that were taken of a run (this project's own).
 use Rattle.std.specs.Prelude.{List}
 use Rattle.curp_cmd.specs.declared.command.Command.{Command}
-use Rattle.curp_prefixes.specs.Ruled.{AreRuled}
+use Rattle.curp_gather.specs.Ruled.{AreRuled}
 use Rattle.curp_gather.specs.Journals.{journals_of}
 use Rattle.curp_gather.specs.declared.journals.Journals.{Journals}
 use Rattle.curp_words.specs.Plan.{live_header}

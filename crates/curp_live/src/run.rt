@@ -10,7 +10,7 @@ use curp_base::NoMemory;
 use curp_cmd::Command;
 use curp_desk::ROOM;
 use curp_gather::Journals;
-use curp_gather_ruled::Ruled;
+use curp_gather::Ruled;
 use curp_seat::Observer;
 use curp_words::LivePlan;
 use std::alloc::Global;

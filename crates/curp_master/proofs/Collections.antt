@@ -3,7 +3,7 @@ use Rattle.std.proofs.Common.{◌≡◌, ℕ, List, map, None, not, refl}
 use Rattle.std.specs.List.{filter}
 use Rattle.curp_cmd.specs.Node.{master_node}
 use Rattle.curp_cmd.specs.declared.command.RequestId.{RequestId}
-use Rattle.curp_collect.specs.Queue.{has_come}
+use Rattle.curp_tail.specs.Queue.{has_come}
 use Rattle.curp_model.specs.Master.{MasterState, Open, Queued, collect_in, synced}
 use Rattle.curp_msg.specs.Moved.{Makes, Node, numbered_move, says_each}
 use Rattle.curp_msg.specs.declared.body.Body.TheVariants.{Gc}

@@ -8,7 +8,7 @@ ghost use Rattle.curp_msg.specs.Moved.{Moves, numbered_move};
 use crate::shell::Shell;
 use curp_base::NoMemory;
 use curp_cmd::{Command, NodeId};
-use curp_collect::Queue;
+use curp_tail::Queue;
 use curp_log::Log;
 use curp_master_log::MasterLog;
 use curp_model::Wish;

@@ -12,7 +12,7 @@ use Rattle.curp_cmd.specs.declared.command.Request.{Request}
 use Rattle.curp_cmd.specs.declared.command.RequestId.{RequestId}
 use Rattle.curp_cmd.specs.declared.entry.Entry.{Entry}
 use Rattle.curp_cmd.specs.declared.entry.Entry.TheVariants.{Op}
-use Rattle.curp_collect.specs.Queue.{Queueing}
+use Rattle.curp_tail.specs.Queue.{Queueing}
 use Rattle.curp_model.specs.declared.Check.{Check}
 use Rattle.curp_model.specs.declared.Check.TheVariants.{Expired, Stale, Known, New}
 use Rattle.curp_model.specs.Log.{LogState, after_entry, fits_at, is_new, meaning}

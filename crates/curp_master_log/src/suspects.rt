@@ -13,7 +13,7 @@ use crate::MasterLog;
 use curp_base::{NoMemory, Shared};
 use curp_cmd::laws::names_one_to_four_keys;
 use curp_cmd::{Answer, Entry, Request};
-use curp_collect::Queue;
+use curp_tail::Queue;
 use curp_log::Log;
 use curp_model::Check;
 use curp_rifl::Table;

@@ -12,9 +12,9 @@ use Rattle.curp_journal.specs.declared.arrived.Arrived.TheVariants as arrived
 use Rattle.curp_journal.specs.declared.arrived.Named.{Named}
 use Rattle.curp_journal.specs.declared.item.Item.{Item}
 use Rattle.curp_model.specs.World.{deed_by}
-use Rattle.curp_turns.specs.Legal.{LegalFrom, deed_for}
-use Rattle.curp_turns.specs.Turns.{AreApart, Did, InOrder, IsKnown, Journal, Placed, Precedes, Turn, of, said, sent_by, turn_stamp, turns_of}
-use Rattle.curp_turns.proofs.Turns.{of_here, of_there, said-snoc}
+use Rattle.curp_journal.specs.Legal.{LegalFrom, deed_for}
+use Rattle.curp_journal.specs.Turns.{AreApart, Did, InOrder, IsKnown, Journal, Placed, Precedes, Turn, of, said, sent_by, turn_stamp, turns_of}
+use Rattle.curp_journal.proofs.Turns.{of_here, of_there, said-snoc}
 use Rattle.curp_merge.specs.Merging.{AreJournals, Delivers, Merged, NameTaken, turn_weight, weight_sent}
 use Rattle.curp_merge.specs.Weaving.{CanBeGiven, ComesFirst, Counted, DeliversBy, TurnIsCounted, NoneComesBefore, NamedWasSent, IsStepOf, NamesInput, NamesTurn, NoneLeft, Numbers, SentBefore, Woven}
 use Rattle.curp_merge.proofs.Left.{all_left, all_weigh, left_after, length-push}

@@ -6,7 +6,7 @@ use Rattle.curp_base.specs.Words.{At}
 use Rattle.curp_base.proofs.Lists.{drop_at}
 use Rattle.curp_msg.specs.Weight.{weight_of}
 use Rattle.curp_msg.specs.declared.message.Message.{Message}
-use Rattle.curp_turns.specs.Turns.{Journal, Turn, turns_of}
+use Rattle.curp_journal.specs.Turns.{Journal, Turn, turns_of}
 use Rattle.curp_merge.specs.Weaving.{sum_left, turns_left}
 
 pub length-push : {A : Type 0} (xs : List A) (x : A) → length (xs ++ x ∷ []) ≡ length xs + 1

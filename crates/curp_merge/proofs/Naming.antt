@@ -3,7 +3,7 @@ use Rattle.std.proofs.Common.{◌≡◌, ℕ, ◌+◌, List, [], ◌∷◌, ◌+
 use Rattle.curp_cmd.specs.declared.node.NodeId.{NodeId}
 use Rattle.curp_msg.specs.declared.script.Step.{Step}
 use Rattle.curp_journal.specs.declared.arrived.Named.{Named}
-use Rattle.curp_turns.specs.Turns.{Did, Journal, Placed, Turn, of}
+use Rattle.curp_journal.specs.Turns.{Did, Journal, Placed, Turn, of}
 use Rattle.curp_merge.specs.Merging.{Delivers, IsNumberIn}
 use Rattle.curp_merge.specs.Weaving.{DeliversBy, TurnIsCounted, NamedWasSent}
 use Rattle.curp_base.proofs.Numbered.{at_place}

@@ -3,7 +3,7 @@ use Rattle.std.proofs.Common.{◌≡◌, ℕ, ◌+◌, ◌<◌, ◌≤◌, ◌^�
 use Rattle.curp_base.specs.Words.{At}
 use Rattle.curp_base.proofs.Lists.{at_same, at_within}
 use Rattle.curp_msg.specs.declared.script.Step.{Step}
-use Rattle.curp_turns.specs.Turns.{Journal, Turn, sent_by, turn_stamp, turns_of}
+use Rattle.curp_journal.specs.Turns.{Journal, Turn, sent_by, turn_stamp, turns_of}
 use Rattle.curp_merge.specs.Held.{AllHeld}
 use Rattle.curp_merge.specs.Merging.{AreJournals, weight_sent}
 use Rattle.curp_merge.specs.Weaving.{CanBeGiven, IsDue, NoneComesBefore, CanBeTaken, IsStepOf, NamesTurn, Woven, turns_left}

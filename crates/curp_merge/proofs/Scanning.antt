@@ -5,7 +5,7 @@ use Rattle.std.proofs.lemmas.Bool.Decides.{nat_tests}
 use Rattle.std.proofs.lemmas.Option.{slice_get_read}
 use Rattle.curp_base.specs.Words.{At}
 use Rattle.curp_base.proofs.Lists.{at_same, at_some, at_within}
-use Rattle.curp_turns.specs.Turns.{Journal, Turn, turn_stamp, turns_of}
+use Rattle.curp_journal.specs.Turns.{Journal, Turn, turn_stamp, turns_of}
 use Rattle.curp_merge.specs.Weaving.{BestSoFar, ComesFirst, IsBest, IsDue, NoneComesBefore, NoTurnLeft, is_less, next_stamp}
 
 -- an element that was read of a list

@@ -18,7 +18,7 @@ use Rattle.curp_journal.specs.declared.arrived.Arrived.TheVariants as arrived
 use Rattle.curp_journal.specs.declared.arrived.Named.{Named}
 use Rattle.curp_journal.specs.declared.item.Item.{Item}
 use Rattle.curp_journal.proofs.Replays.{stamp_above}
-use Rattle.curp_turns.specs.Turns.{AreApart, Did, Journal, turn_stamp, turns_of}
+use Rattle.curp_journal.specs.Turns.{AreApart, Did, Journal, turn_stamp, turns_of}
 use Rattle.curp_merge.specs.Held.{AllHeld, IsHeld, held_by, journal_of, kept_at}
 use Rattle.curp_merge.specs.Merging.{AreJournals}
 use Rattle.curp_merge.specs.Weaving.{NoneComesBefore, IsNumberBy, IsNumberOf, NamedWasSent, SentBefore, Woven}

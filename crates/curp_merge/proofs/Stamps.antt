@@ -6,7 +6,7 @@ use Rattle.curp_base.proofs.Lists.{at_append, at_append_cases, at_map, at_within
 use Rattle.curp_journal.specs.Journal.{Stamped, last_stamp}
 use Rattle.curp_journal.specs.declared.item.Item.{Item}
 use Rattle.curp_journal.proofs.Replays.{last_above, rising}
-use Rattle.curp_turns.specs.Turns.{Did, Journal, Quits, Turn, turn_stamp, turns_of}
+use Rattle.curp_journal.specs.Turns.{Did, Journal, Quits, Turn, turn_stamp, turns_of}
 
 -- ---- what stands among the turns
 

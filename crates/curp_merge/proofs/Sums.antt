@@ -9,9 +9,9 @@ use Rattle.curp_journal.specs.Journal.{last_stamp}
 use Rattle.curp_journal.specs.declared.item.Item.{Item}
 use Rattle.curp_msg.specs.declared.script.Step.{Step}
 use Rattle.curp_msg.specs.Weight.{weight_of}
-use Rattle.curp_turns.specs.Legal.{LegalFrom}
-use Rattle.curp_turns.specs.Turns.{AreApart, AreTurns, Did, IsKnown, Journal, Placed, Quits, Turn, of, said, sent_by, turns_of}
-use Rattle.curp_turns.proofs.Turns.{of_first}
+use Rattle.curp_journal.specs.Legal.{LegalFrom}
+use Rattle.curp_journal.specs.Turns.{AreApart, AreTurns, Did, IsKnown, Journal, Placed, Quits, Turn, of, said, sent_by, turns_of}
+use Rattle.curp_journal.proofs.Turns.{of_first}
 use Rattle.curp_cmd.proofs.Nodes.{other_node}
 use Rattle.curp_merge.specs.Merging.{Merged, turn_count, turn_weight, weight_sent}
 

@@ -1,7 +1,7 @@
 -- Why journals aren't a script (this project's own).
 use Rattle.std.specs.Prelude.{◌≡◌, ◌≤◌, ◌<◌, ◌^◌, ◌-◌, min, List, ⊤}
 use Rattle.curp_msg.specs.Limits.{step_limit, weight_limit}
-use Rattle.curp_turns.specs.Turns.{Journal}
+use Rattle.curp_journal.specs.Turns.{Journal}
 use Rattle.curp_merge.specs.Held.{AllHeld, IsMismatch}
 use Rattle.curp_merge.specs.Merging.{turn_count, weight_sent}
 use Rattle.curp_merge.specs.declared.error.GatherError.{GatherError}

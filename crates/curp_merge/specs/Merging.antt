@@ -16,8 +16,8 @@ use Rattle.curp_journal.specs.declared.arrived.Arrived.{Arrived}
 use Rattle.curp_journal.specs.declared.arrived.Arrived.TheVariants as arrived
 use Rattle.curp_journal.specs.declared.arrived.Named.{Named}
 use Rattle.curp_journal.specs.declared.item.Item.{Item}
-use Rattle.curp_turns.specs.Legal.{LegalFrom}
-use Rattle.curp_turns.specs.Turns.{AreApart, AreTurns, Did, InOrder, Journal, Placed, Turn, of, said, sent_by, turns_of}
+use Rattle.curp_journal.specs.Legal.{LegalFrom}
+use Rattle.curp_journal.specs.Turns.{AreApart, AreTurns, Did, InOrder, Journal, Placed, Turn, of, said, sent_by, turns_of}
 
 -- Journals that can be merged: no two are of one node, there is one manager, stamps rise as a node gives them, and what
 -- came to each node is its own

@@ -15,8 +15,8 @@ use Rattle.curp_journal.specs.declared.arrived.Arrived.{Arrived}
 use Rattle.curp_journal.specs.declared.arrived.Arrived.TheVariants as arrived
 use Rattle.curp_journal.specs.declared.arrived.Named.{Named}
 use Rattle.curp_journal.specs.declared.item.Item.{Item}
-use Rattle.curp_turns.specs.Legal.{LegalFrom, deed_for}
-use Rattle.curp_turns.specs.Turns.{Did, InOrder, IsKnown, Journal, Placed, Precedes, Quits, Turn, of, said, sent_by, turn_stamp, turns_of}
+use Rattle.curp_journal.specs.Legal.{LegalFrom, deed_for}
+use Rattle.curp_journal.specs.Turns.{Did, InOrder, IsKnown, Journal, Placed, Precedes, Quits, Turn, of, said, sent_by, turn_stamp, turns_of}
 use Rattle.curp_merge.specs.Merging.{NameTaken, turn_weight, weight_sent}
 use Rattle.curp_journal.specs.Own.{IsOwn}
 

@@ -1,7 +1,7 @@
 //! How much journals hold.
 ghost use Rattle.std.specs.Prelude.{◌≡◌, ◌-◌, ◌^◌, min, map, length};
 ghost use Rattle.std.specs.List.{sum};
-ghost use Rattle.curp_turns.specs.Turns.{turns_of};
+ghost use Rattle.curp_journal.specs.Turns.{turns_of};
 ghost use Rattle.curp_msg.specs.Weight.{weight_of};
 ghost use Rattle.curp_merge.specs.Merging.{turn_count, turn_weight, weight_sent};
 

@@ -3,7 +3,7 @@ ghost use Rattle.std.specs.Prelude.{◌≡◌, ◌↔◌, Some, IsTrue, IfOk, fi
 ghost use Rattle.std.specs.Option.{option_copied};
 ghost use Rattle.curp_base.specs.Words.{numbered};
 ghost use Rattle.curp_cmd.specs.Node.{same_node};
-ghost use Rattle.curp_turns.specs.Turns.{Journal};
+ghost use Rattle.curp_journal.specs.Turns.{Journal};
 ghost use Rattle.curp_merge.specs.Held.{held_by, journal_of, kept_at};
 
 use crate::Strand;

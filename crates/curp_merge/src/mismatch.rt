@@ -1,7 +1,7 @@
 //! What nodes took that isn't what its sender's journal holds.
 ghost use Rattle.std.specs.Prelude.{◌<◌, length, IfOk, IfSome, MatchOption};
 ghost use Rattle.curp_base.specs.Words.{At};
-ghost use Rattle.curp_turns.specs.Turns.{Journal};
+ghost use Rattle.curp_journal.specs.Turns.{Journal};
 ghost use Rattle.curp_merge.specs.Held.{AllHeld, IsHeld, IsMismatch, IsOther, ItemsHeld};
 
 use crate::Strand;

@@ -2,7 +2,7 @@ ghost use Rattle.std.specs.Prelude.{◌≡◌, true, length, slice_get, IfOk, If
 ghost use Rattle.std.specs.List.{position};
 ghost use Rattle.curp_cmd.specs.Node.{manager_node, same_node};
 ghost use Rattle.curp_cmd.specs.declared.node.NodeKind.TheVariants as kind;
-ghost use Rattle.curp_turns.specs.Turns.{AreApart, Journal, sent_by, turns_of};
+ghost use Rattle.curp_journal.specs.Turns.{AreApart, Journal, sent_by, turns_of};
 ghost use Rattle.curp_journal.specs.Own.{IsOwn, is_order_of};
 ghost use Rattle.curp_merge.specs.Weaving.{IsNextStep, IsNumberBy, IsNumberOf, IsOrderTo, CanBeTaken, NamedWasSent};
 ghost use Rattle.curp_merge.specs.Weaving.{IsStepForInput, NamesInput, NamesTurn, SentBefore};

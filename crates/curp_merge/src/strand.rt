@@ -13,7 +13,7 @@ pub struct Strand<'a> {
 }
 
 impl<'a> Model for Strand<'a> {
-    ghost use Rattle.curp_turns.specs.Turns.{Journal};
+    ghost use Rattle.curp_journal.specs.Turns.{Journal};
 
     ghost Value = { Journal };
 

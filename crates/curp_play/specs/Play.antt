@@ -10,7 +10,7 @@ use Rattle.curp_msg.specs.declared.script.Step.{Step}
 use Rattle.curp_script.specs.EventTexts.{claim_lines}
 use Rattle.curp_script.specs.Script.{Ending, Whole, Bad, TooLong, TooMany, Steps, Script}
 use Rattle.curp_model.specs.World.{World, opening, order, run, world}
-use Rattle.curp_text.specs.Text.{closing_order, steps_text}
+use Rattle.curp_report.specs.RunText.{closing_order, steps_text}
 use Rattle.curp_runner.specs.Reading.{HoldsRead, script_in}
 
 -- ---- the text

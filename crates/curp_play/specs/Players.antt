@@ -12,7 +12,7 @@ use Rattle.curp_script.specs.EventTexts.{claim_lines}
 use Rattle.curp_script.specs.Grammar.{header_in, step_in}
 use Rattle.curp_script.specs.Script.{Ending, Whole, Bad, TooLong, TooMany, Script, Steps, begun_with, script_of, steps_in, with_step}
 use Rattle.curp_script.specs.declared.error.LineError.{LineError}
-use Rattle.curp_text.specs.Text.{closing_order, made_text, steps_text}
+use Rattle.curp_report.specs.RunText.{closing_order, made_text, steps_text}
 use Rattle.curp_play.specs.Play.{HasAnOrder, LeadsToAnOrder, OrderStands, claim_behind, claim_of, claim_text, closing_text, no_order, text_behind, text_of, texts_of, texts_of_steps}
 use Rattle.curp_runner.specs.Reading.{Said, SaidScript, said_behind, said_in, script_by, script_in, with_line}
 use Rattle.curp_runner.specs.Run.{Rules, SaysOfBytes, after, closing_by, line_texts_behind, line_texts_by, no_text, text_behind_header, text_by, texts}

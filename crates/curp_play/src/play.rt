@@ -8,7 +8,7 @@ ghost use Rattle.curp_play.specs.Players.{play_says, played};
 ghost use Rattle.curp_runner.specs.Status.{EndsWhole, is_cut_short, status_of};
 ghost use Rattle.curp_script.specs.Headers.{bad_field};
 ghost use Rattle.curp_script.specs.Script.{Whole};
-ghost use Rattle.curp_text.specs.Text.{made_text};
+ghost use Rattle.curp_report.specs.RunText.{made_text};
 
 use curp_base::NoMemory;
 use curp_io::{Sink, Source};

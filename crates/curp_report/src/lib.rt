@@ -10,6 +10,9 @@
 //! ```
 //!
 //! `push_step_text`, `step_text`, `order_text`: exact, byte for byte.
+//!
+//! The text of a run, as a definition. There is no code here: the program writes it step by step, and worked examples are
+//! computed on it.
 #![tactic(auto)]
 
 mod backup;

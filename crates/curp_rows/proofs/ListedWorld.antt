@@ -15,7 +15,7 @@ use Rattle.curp_msg.specs.declared.script.Step.{Step}
 use Rattle.curp_report.specs.Text.{order_text}
 use Rattle.curp_model.specs.Recovery.{MasterStage, master_input, master_ordered}
 use Rattle.curp_model.specs.World.{World, Deed, Gives, Stepped, opening, weight, with_master, moves_one, moves_kind, deed_of, effect, events_of, is_lost, names_nobody, stops_manager, names_stopped, is_too_much, result_of, refused, kept, steps_by, step, order, with_answers}
-use Rattle.curp_text.specs.Text.{made_text, closing_order, steps_text, run_text}
+use Rattle.curp_report.specs.RunText.{made_text, closing_order, steps_text, run_text}
 use Rattle.curp_rows.proofs.ListedLog.{listed_answers, same_answers}
 use Rattle.curp_rows.proofs.ListedMaster.{listed_master, same_master}
 

@@ -3,7 +3,7 @@ use Prim.Native.String.{String}
 use Rattle.std.specs.Prelude.{◌≡◌, ℕ, List, ◌++◌, flat_map, codes}
 use Rattle.curp_msg.specs.declared.script.Header.{Header}
 use Rattle.curp_msg.specs.declared.script.Step.{Step}
-use Rattle.curp_text.specs.Text.{run_text}
+use Rattle.curp_report.specs.RunText.{run_text}
 
 -- a script, and its whole text
 pub record Example : Type 0 where

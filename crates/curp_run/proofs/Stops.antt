@@ -10,7 +10,7 @@ use Rattle.curp_msg.specs.declared.script.Step.{Step}
 use Rattle.curp_msg.specs.declared.script.Step.TheVariants.{Collect, Deliver, Expire, Fetch, Invoke, Migrate, Nudge, Recover, Replace, Retry, Stop, Sync}
 use Rattle.curp_model.specs.World.{World, has_node, step}
 use Rattle.curp_script.specs.Printed.{NamesNode}
-use Rattle.curp_turns.specs.Turns.{Placed}
+use Rattle.curp_journal.specs.Turns.{Placed}
 use Rattle.curp_law_steps.proofs.Results.{done, result}
 use Rattle.curp_law_weave.specs.Run.{Runs}
 

@@ -14,7 +14,7 @@ use Rattle.curp_runner.specs.Reading.{script_in}
 use Rattle.curp_runner.specs.Status.{EndsWhole, code_of, is_cut_short, status_of}
 use Rattle.curp_runner.specs.declared.status.Status.{Status}
 use Rattle.curp_runner.specs.declared.status.Status.TheVariants as status
-use Rattle.curp_judge.specs.Check.{EndsAs, EndsJudged, IsBrokenClaim, IsJudgedPrefix, is_verdict, verdict_text}
+use Rattle.curp_runner.specs.Check.{EndsAs, EndsJudged, IsBrokenClaim, IsJudgedPrefix, is_verdict, verdict_text}
 use Rattle.curp_resp.specs.Input.{Decomposes}
 use Rattle.curp_resp.specs.Meaning.{meaning}
 use Rattle.curp_run.specs.Live.{IsLive, IsLivePrefix}

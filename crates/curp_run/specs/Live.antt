@@ -11,16 +11,16 @@ use Rattle.curp_script.specs.Printed.{NamesNode}
 use Rattle.curp_script.specs.Script.{Script, Whole}
 use Rattle.curp_script.specs.Texts.{script_lines}
 use Rattle.curp_model.specs.World.{world}
-use Rattle.curp_turns.specs.Turns.{Journal}
-use Rattle.curp_turns.specs.Work.{invocations, orders_to, recoveries}
+use Rattle.curp_journal.specs.Turns.{Journal}
+use Rattle.curp_journal.specs.Work.{invocations, orders_to, recoveries}
 use Rattle.curp_gather.specs.Journals.{journals_of}
 use Rattle.curp_gather.specs.declared.journals.Journals.{Journals}
 use Rattle.curp_anew.specs.Live.{IsLiveRun, recoveries_from, stops}
 use Rattle.curp_merge.specs.Held.{AllHeld}
 use Rattle.curp_merge.specs.Merging.{turn_count, weight_sent}
-use Rattle.curp_gather_ruled.specs.Causes.{IsRuledCause}
-use Rattle.curp_gather_ruled.specs.declared.error.RuledError.{RuledError}
-use Rattle.curp_gather_ruled.specs.declared.error.RuledError.TheVariants as error
+use Rattle.curp_gather.specs.Causes.{IsRuledCause}
+use Rattle.curp_gather.specs.declared.error.RuledError.{RuledError}
+use Rattle.curp_gather.specs.declared.error.RuledError.TheVariants as error
 use Rattle.curp_law_weave.specs.Run.{IsCompletedBy}
 use Rattle.curp_words.specs.declared.task.LivePlan.{LivePlan}
 use Rattle.curp_words.specs.Plan.{live_header}

@@ -9,7 +9,7 @@ use crate::arguments::task_of;
 use crate::live::live_script;
 use crate::script::make_script;
 use curp_io::{Sink, Source};
-use curp_judge::check_claim;
+use curp_runner::check_claim;
 use curp_manage::manage_orders;
 use curp_play::{play_history, play_script};
 use curp_runner::Status;

@@ -4,3 +4,4 @@ pub mod SoFar
 pub mod Pieces
 mod Prefixes
 mod Runs
+mod Judging

@@ -5,8 +5,13 @@
 //! - `write` and `close`: a piece is written, and what was written is passed on, for whatever writes to a sink.
 //! - `run` reads a script whose lines may say anything (`ScriptLine`), and has a `Player` do them one by one. It is exact
 //!   over what the player's rules say of the bytes.
+//!
+//! `curp check`: reads a history and an order, and writes whether the order is one of the history.
+//!
+//! `check_claim`: as `docs/THEOREMS.md` has it, over `specs/Check.antt`.
 #![tactic(auto)]
 
+mod claim;
 mod reading;
 mod running;
 mod status;
@@ -16,3 +21,4 @@ pub use reading::ScriptLine;
 pub use running::{Player, run};
 pub use status::{Complaint, Status};
 pub use writing::{close, pass_on, write};
+pub use claim::check_claim;

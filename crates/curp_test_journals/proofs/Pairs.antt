@@ -3,7 +3,7 @@ use Rattle.std.proofs.Common.{◌≡◌, ◌≢◌, ℕ, zero, suc, [], ◌∷�
 use Rattle.curp_base.specs.Words.{At}
 use Rattle.curp_base.proofs.Lists.{Each-at}
 use Rattle.curp_journal.specs.declared.item.Item.{Item}
-use Rattle.curp_turns.specs.Turns.{AreApart, Journal}
+use Rattle.curp_journal.specs.Turns.{AreApart, Journal}
 use Rattle.curp_test_journals.specs.Lines.{IsLine}
 use Rattle.curp_merge.specs.Merging.{AreJournals}
 use Rattle.curp_journal.specs.Own.{IsOwn}

@@ -4,7 +4,7 @@ use Rattle.curp_base.specs.Words.{Each}
 use Rattle.curp_cmd.specs.declared.node.NodeKind.TheVariants as kind
 use Rattle.curp_journal.specs.Journal.{Stamped}
 use Rattle.curp_journal.specs.declared.item.Item.{Item}
-use Rattle.curp_turns.specs.Turns.{Journal}
+use Rattle.curp_journal.specs.Turns.{Journal}
 use Rattle.curp_journal.specs.Own.{IsOwn}
 
 -- a node that isn't the manager can have the journal

@@ -2,7 +2,7 @@
 
 use crate::build::{id, made, must, right, right_at};
 use curp_cmd::RequestId;
-use curp_collect::Queue;
+use curp_tail::Queue;
 use std::alloc::Global;
 use std::process::Abort;
 

@@ -7,7 +7,7 @@ ghost use Rattle.curp_words.specs.Plan.{IsLivePlan, live_header};
 
 use curp_base::NoMemory;
 use curp_cmd::Command;
-use curp_gather_ruled::{Ruled, RuledError, gather_ruled};
+use curp_gather::{Ruled, RuledError, gather_ruled};
 use curp_gen::workload;
 use curp_live::live;
 use curp_msg::{Header, Step};

@@ -1,5 +1,5 @@
 use Rattle.std.proofs.Common.{ℕ, ◌≤◌, ◌<◌}
-use Rattle.curp_turns.specs.Work.{IsCompletedIn}
+use Rattle.curp_journal.specs.Work.{IsCompletedIn}
 use Rattle.curp_anew.proofs.work.all_completed.Given as goal
 
 -- those so far are completed

@@ -6,7 +6,7 @@ use Rattle.curp_base.proofs.Lists.{Each-at, at_map, at_within}
 use Rattle.curp_cmd.specs.declared.command.Command.{Command}
 use Rattle.curp_cmd.specs.declared.node.NodeId.{NodeId}
 use Rattle.curp_journal.specs.declared.item.Item.{Item}
-use Rattle.curp_turns.specs.Work.{DidWork}
+use Rattle.curp_journal.specs.Work.{DidWork}
 use Rattle.curp_anew.proofs.Scans.{did_more}
 use Rattle.curp_anew.proofs.work.did_all.Goals as goal
 use Rattle.curp_anew.proofs.work.did_all.Goals.{then-id-index-via-then-id-index, then-id-index-via-else-id-index+then-not-did_work}

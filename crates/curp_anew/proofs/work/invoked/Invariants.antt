@@ -1,5 +1,5 @@
 use Rattle.std.proofs.Common.{◌≡◌, ◌↔◌, drop}
-use Rattle.curp_turns.specs.Work.{invoked_in}
+use Rattle.curp_journal.specs.Work.{invoked_in}
 use Rattle.curp_anew.proofs.work.invoked.Given as goal
 
 -- all of it is invoked by all just where what is left is by the items that are left

@@ -1,6 +1,6 @@
 use Rattle.std.proofs.Common.{◌≡◌, ◌∙◌, IfOk, List, subst}
 use Rattle.curp_merge.specs.Held.{AllHeld}
-use Rattle.curp_turns.specs.Turns.{Journal}
+use Rattle.curp_journal.specs.Turns.{Journal}
 use Rattle.curp_gather.specs.Journals.{journals_of}
 use Rattle.curp_gather.proofs.Gathered.{gathered, mergeable}
 use Rattle.curp_gather.proofs.script.gather.Goals as goal

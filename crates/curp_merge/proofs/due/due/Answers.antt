@@ -1,6 +1,6 @@
 use Rattle.std.proofs.Common.{◌≡◌, ◌+◌, ℕ, length, arith, ap, sym, ◌∙◌, subst, Some}
 use Rattle.curp_base.specs.Words.{At}
-use Rattle.curp_turns.specs.Turns.{turns_of}
+use Rattle.curp_journal.specs.Turns.{turns_of}
 use Rattle.curp_merge.specs.Weaving.{BestSoFar, is_less}
 use Rattle.curp_merge.proofs.Scanning.{best_is_due, best_kept, best_new, best_skipped, has_next, has_none, read_at}
 use Rattle.curp_merge.proofs.due.due.Goals as goal

@@ -1,6 +1,6 @@
 use Rattle.std.proofs.Common.{ℕ, ◌<◌}
 use Rattle.curp_base.specs.Words.{At}
-use Rattle.curp_turns.specs.Turns.{Journal}
+use Rattle.curp_journal.specs.Turns.{Journal}
 use Rattle.curp_merge.specs.Held.{ItemsHeld}
 use Rattle.curp_merge.proofs.mismatch.first_mismatch.Given as goal
 

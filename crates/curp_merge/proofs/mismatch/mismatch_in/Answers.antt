@@ -3,7 +3,7 @@ use Rattle.std.proofs.lemmas.Bool.{cases_eq}
 use Rattle.std.proofs.lemmas.Option.{slice_get_read, slice_get_within}
 use Rattle.curp_base.specs.Words.{At}
 use Rattle.curp_journal.specs.declared.item.Item.{Item}
-use Rattle.curp_turns.specs.Turns.{Journal}
+use Rattle.curp_journal.specs.Turns.{Journal}
 use Rattle.curp_merge.specs.Held.{IsHeld, IsOther}
 use Rattle.curp_merge.proofs.mismatch.mismatch_in.Goals as goal
 

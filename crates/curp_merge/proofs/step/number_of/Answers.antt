@@ -1,7 +1,7 @@
 use Rattle.std.proofs.Common.{◌∙◌, ap, arith}
 use Rattle.curp_cmd.specs.Node.{same_node}
 use Rattle.curp_cmd.proofs.Nodes.{same_node-self}
-use Rattle.curp_turns.specs.Turns.{Journal}
+use Rattle.curp_journal.specs.Turns.{Journal}
 use Rattle.curp_merge.proofs.Senders.{before_is, number_is, only_number, position_none, stands_at, step_below}
 use Rattle.curp_merge.proofs.step.number_of.Goals as goal
 

@@ -2,7 +2,7 @@ use Rattle.std.proofs.Common.{◌∙◌, List, map, not, ap, sym}
 use Rattle.std.specs.List.{filter}
 use Rattle.curp_cmd.specs.Node.{master_node}
 use Rattle.curp_cmd.specs.declared.node.NodeId.{NodeId}
-use Rattle.curp_collect.specs.Queue.{has_come}
+use Rattle.curp_tail.specs.Queue.{has_come}
 use Rattle.curp_model.specs.Master.{MasterState, Queued, synced}
 use Rattle.curp_msg.specs.Moved.{Node, says_each}
 use Rattle.curp_msg.specs.declared.body.Body.TheVariants.{Gc}

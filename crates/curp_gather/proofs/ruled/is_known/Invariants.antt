@@ -1,0 +1,8 @@
+use Rattle.std.proofs.Common.{ℕ, ◌≡◌, ◌<◌}
+use Rattle.curp_base.specs.Words.{At}
+use Rattle.curp_journal.specs.Turns.{Journal}
+use Rattle.curp_gather.proofs.ruled.is_known.Given as goal
+
+-- none so far is of that node
+abbrev pub invariant-loop-one : goal.invariant-loop-one
+invariant-loop-one l = (t : ℕ) (one : Journal) → t < l.one-index → At l.strands t one → one.id ≡ l.node → ⊥

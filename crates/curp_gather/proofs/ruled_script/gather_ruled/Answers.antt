@@ -1,0 +1,14 @@
+use Rattle.std.proofs.Common.{subst, sym}
+use Rattle.curp_merge.specs.Causes.{IsCause}
+use Rattle.curp_merge.specs.Held.{AllHeld}
+use Rattle.curp_gather.specs.Journals.{journals_of}
+use Rattle.curp_gather.specs.declared.journals.Journals.{Journals}
+use Rattle.curp_gather.proofs.Mismatches.{no_mismatch}
+use Rattle.curp_gather.proofs.ruled_script.gather_ruled.Goals as goal
+
+pub unreachable-requires : goal.unreachable-requires
+unreachable-requires c =
+    let journals = journals_of c.journals-journals.result.now in
+    let held = subst (λ (j : Journals). AllHeld (journals_of j)) (sym c.journals-journals.ensures.journals) c.in_ok-hold.ensures in
+    let told = c.in-Err-Mismatch in
+    no_mismatch journals told.field-0-0 told.field-0-1 told.field-0-2 told.field-0-3 held (subst (IsCause journals) told.field-0-is told.ensures.cause)

@@ -1,5 +1,0 @@
-use Rattle.curp_prefixes.proofs.Holding.{all_held}
-use Rattle.curp_prefixes.proofs.ruled.ruled_journals_hold.Goals as goal
-
-pub returns : goal.returns
-returns c = all_held _ c.requires.apart c.requires.ruled
