@@ -31,10 +31,10 @@ mod script;
 mod strands;
 
 pub use curp_merge::GatherError;
-pub use journals::Journals;
-pub use script::{gather, gather_held};
-pub use strands::strands_of;
-pub use ruled::{are_ruled, ruled_journals_hold};
 pub use error::RuledError;
+pub use journals::Journals;
+pub use ruled::{are_ruled, ruled_journals_hold};
 pub use ruled_journals::Ruled;
 pub use ruled_script::gather_ruled;
+pub use script::{gather, gather_held};
+pub use strands::strands_of;

@@ -2,9 +2,8 @@ ghost use Rattle.std.specs.Prelude.{◌≡◌, ◌↔◌, IsTrue, IfOk, MatchOpt
 ghost use Rattle.curp_gather.specs.Ruled.{AreRuled};
 ghost use Rattle.curp_gather.specs.Journals.{journals_of};
 
+use crate::{Journals, are_ruled, strands_of};
 use curp_base::NoMemory;
-use crate::{Journals, strands_of};
-use crate::are_ruled;
 use std::alloc::Global;
 use std::marker::Model;
 

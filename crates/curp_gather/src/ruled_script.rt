@@ -5,11 +5,9 @@ ghost use Rattle.curp_merge.specs.Merging.{turn_count, weight_sent};
 ghost use Rattle.curp_msg.specs.Limits.{step_limit, weight_limit};
 ghost use Rattle.curp_gather.specs.Causes.{IsRuledCause};
 
-use crate::{Ruled, RuledError};
+use crate::{GatherError, Ruled, RuledError, gather_held, ruled_journals_hold, strands_of};
 use curp_base::NoMemory;
-use crate::{GatherError, gather_held, strands_of};
 use curp_msg::{Header, Step};
-use crate::ruled_journals_hold;
 use std::alloc::Global;
 
 /// The script that the ruled journals of a header's nodes are. An error comes exactly by its cause, the first in the

@@ -45,12 +45,12 @@ use Rattle.curp_law_linear.proofs.ManagersMoves.{adopted_entry, entry_here, told
 use Rattle.curp_law_linear.proofs.Parts.{entry_part, part_log}
 use Rattle.curp_facts.specs.Names.{Top}
 use Rattle.curp_facts.specs.Predecessors.{Predecessors}
-use Rattle.curp_law_pairs.proofs.Completed.{completed_update}
-use Rattle.curp_law_pairs.proofs.Logs.{reached}
-use Rattle.curp_law_pairs.proofs.Pairs.{completable_at, completable_stands, pairs_good, stands_along}
-use Rattle.curp_law_pairs.proofs.Requests.{one_command}
-use Rattle.curp_law_pairs.proofs.Witnessed.{early}
-use Rattle.curp_law_pairs.proofs.Words.{one_log}
+use Rattle.curp_law_runs.proofs.Completed.{completed_update}
+use Rattle.curp_law_runs.proofs.Logs.{reached}
+use Rattle.curp_law_runs.proofs.Pairs.{completable_at, completable_stands, pairs_good, stands_along}
+use Rattle.curp_law_runs.proofs.Requests.{one_command}
+use Rattle.curp_law_runs.proofs.Witnessed.{early}
+use Rattle.curp_law_runs.proofs.Words.{one_log}
 use Rattle.curp_facts.specs.Migrated.{AllStored, Migrated, OpStored}
 use Rattle.curp_facts.specs.Routes.{Routes}
 use Rattle.curp_law_linear.proofs.Found.{none_any}

@@ -38,7 +38,7 @@ use Rattle.curp_law_linear.proofs.AdoptRecovery.{Recovery}
 use Rattle.curp_law_linear.proofs.ManagersMoves.{adopted_entry, adopted_ok}
 use Rattle.curp_law_linear.proofs.Parts.{adopted_or_none, part_entry, part_log}
 use Rattle.curp_facts.specs.Names.{IsOf}
-use Rattle.curp_law_pairs.proofs.Words.{one_log}
+use Rattle.curp_law_runs.proofs.Words.{one_log}
 use Rattle.curp_facts.specs.Migrated.{AllStored, Migrated, OnlyInWork, TakeStored}
 use Rattle.curp_facts.specs.Routes.{Routes, order_of}
 use Rattle.curp_law_linear.proofs.Found.{none_any}

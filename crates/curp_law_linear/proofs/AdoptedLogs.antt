@@ -20,7 +20,7 @@ use Rattle.curp_facts.specs.Known.{Known}
 use Rattle.curp_law_linear.specs.Serves.{OpeningServes}
 use Rattle.curp_facts.specs.Names.{GivenOk, Top}
 use Rattle.curp_facts.specs.Predecessors.{Predecessors}
-use Rattle.curp_law_pairs.proofs.Adoptions.{adoptions_ok}
+use Rattle.curp_law_runs.proofs.Adoptions.{adoptions_ok}
 use Rattle.curp_base.proofs.Numbered.{numbers_at}
 
 -- they serve at opening

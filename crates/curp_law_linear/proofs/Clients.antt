@@ -34,13 +34,13 @@ use Rattle.curp_law_linear.specs.Ordered.{Ordered, WorthOk, capture_of, QuickOk,
 use Rattle.curp_law_linear.proofs.Parts.{entry_part, part_log}
 use Rattle.curp_facts.specs.Migrated.{Migrated, OpStored}
 use Rattle.curp_facts.specs.Predecessors.{Predecessors}
-use Rattle.curp_law_pairs.specs.Answered.{AnsweredBy}
+use Rattle.curp_law_runs.specs.Answered.{AnsweredBy}
 use Rattle.curp_law_linear.proofs.ReadsLater.{looked_capture, quick_capture}
 use Rattle.curp_facts.specs.Nodes.{WasSeen}
 use Rattle.curp_law_line.proofs.QuickBegins.{flag_fits}
 use Rattle.curp_law_names.proofs.Lists.{among_each}
 use Rattle.curp_law_linear.proofs.CutMarks.{hit_capture}
-use Rattle.curp_law_pairs.proofs.Pairs.{completable_at, completable_stands, stands_along}
+use Rattle.curp_law_runs.proofs.Pairs.{completable_at, completable_stands, stands_along}
 
 module _ {w : World} (known : Known w) (chain : Predecessors w) (migrated : Migrated w) (ordered : Ordered w) where
   -- ---- updates

@@ -30,8 +30,8 @@ use Rattle.curp_model.specs.Named.{IsBackup}
 use Rattle.curp_facts.specs.Kept.{AdoptionOk}
 use Rattle.curp_facts.specs.Nodes.{BackupOk}
 use Rattle.curp_facts.specs.Predecessors.{Predecessors}
-use Rattle.curp_law_pairs.proofs.Adoptions.{adoptions_ok}
-use Rattle.curp_law_pairs.proofs.Words.{one_backup}
+use Rattle.curp_law_runs.proofs.Adoptions.{adoptions_ok}
+use Rattle.curp_law_runs.proofs.Words.{one_backup}
 use Rattle.curp_msg.specs.declared.body.Body.TheVariants as body
 use Rattle.curp_msg.specs.declared.body.Recover.{Recover}
 use Rattle.curp_law_stays.proofs.Words.{Follows, adopted_later, master_later, backup_later, sent_later}

@@ -18,7 +18,7 @@ use Rattle.curp_law_linear.proofs.Cuts.{last_reign, log_grows, low_later, part_l
 use Rattle.curp_law_linear.proofs.ReadsManager.{AdoptsRecovery}
 use Rattle.curp_law_linear.proofs.ReadsStored.{from_stays}
 use Rattle.curp_facts.specs.Predecessors.{Predecessors}
-use Rattle.curp_law_pairs.proofs.Words.{one_backup}
+use Rattle.curp_law_runs.proofs.Words.{one_backup}
 use Rattle.curp_model.specs.Backup.{BackupState}
 use Rattle.curp_model.specs.Named.{IsBackup}
 use Rattle.curp_msg.specs.Moved.{says}

@@ -34,8 +34,8 @@ use Rattle.curp_facts.specs.Predecessors.{Predecessors}
 use Rattle.curp_facts.specs.Migrated.{Migrated, TakeStored}
 use Rattle.curp_facts.specs.Routes.{IsMigrationDone, IsGiveOf, IsMoving, Routes}
 use Rattle.curp_facts.specs.Stored.{StoredNow}
-use Rattle.curp_law_routes.proofs.Migrated.{one_stored, work_or_done}
-use Rattle.curp_law_routes.proofs.Stored.{entry_of, place_in_prefix, one_adopted, stored_now}
+use Rattle.curp_law_runs.proofs.Migrated.{one_stored, work_or_done}
+use Rattle.curp_law_runs.proofs.Stored.{entry_of, place_in_prefix, one_adopted, stored_now}
 use Rattle.curp_cmd.proofs.Apart.{same_number}
 
 -- behind a give its range is owned

@@ -13,7 +13,7 @@ use Rattle.curp_law_linear.proofs.KeptReads.{values_kept}
 use Rattle.curp_law_linear.proofs.KeptWorld.{kept_of_world}
 use Rattle.curp_law_linear.proofs.Runs.{orderly_all, step_keeps_order}
 use Rattle.curp_law_linear.proofs.Statements as statements
-use Rattle.curp_law_routes.proofs.Always.{migrated_now}
+use Rattle.curp_law_runs.proofs.Always.{migrated_now}
 use Rattle.curp_law_linear.proofs.KeptQuicks.{quicks_kept}
 use Rattle.curp_law_runs.proofs.Facts.{facts_all, pairs_all}
 

@@ -16,7 +16,7 @@ use Rattle.curp_msg.specs.declared.body.Recover.{Recover}
 use Rattle.curp_cmd.specs.Node.{manager_node, client_node, backup_node, witness_node, master_node}
 use Rattle.curp_facts.specs.Names.{RecoverOrderOk, AdoptedOk, IsOf}
 use Rattle.curp_facts.specs.Kept.{AdoptionOk, LivesEarly, adopted_by}
-use Rattle.curp_law_pairs.proofs.Adoptions.{adoptions_ok}
+use Rattle.curp_law_runs.proofs.Adoptions.{adoptions_ok}
 use Rattle.curp_law_names.proofs.Lists.{among_each}
 use Rattle.curp_facts.specs.Growth.{Grows}
 use Rattle.curp_model.specs.Client.{client_input}
@@ -33,7 +33,7 @@ use Rattle.curp_law_kept.proofs.Followed.{master_step}
 use Rattle.curp_law_kept.specs.ManagerEffect.{Uttered}
 use Rattle.curp_law_kept.proofs.ManagersDo.{manager_does}
 use Rattle.curp_msg.specs.declared.script.Header.{Header}
-use Rattle.curp_law_routes.proofs.Steps.{nothing_sent}
+use Rattle.curp_law_runs.proofs.Steps.{nothing_sent}
 use Rattle.curp_law_kept.proofs.Cases.{ByBackup, ByClient, ByManager, ByMaster, ByWitness, Rests, StepCase, Stays}
 use Rattle.curp_law_kept.proofs.Clients.{client_messages}
 use Rattle.curp_msg.specs.declared.body.Body.TheVariants as body

@@ -27,10 +27,10 @@ use Rattle.curp_law_line.specs.Moves.{GivenFits, MigrateFits}
 use Rattle.curp_law_line.specs.OfWorld.{line_of, moving_of, part_of}
 use Rattle.curp_law_linear.specs.Ordered.{moved_number}
 use Rattle.curp_law_linear.proofs.Parts.{adopted_or_none, entry_part, part_entry, part_log}
-use Rattle.curp_law_pairs.specs.Along.{HoldsOn}
+use Rattle.curp_law_runs.specs.Along.{HoldsOn}
 use Rattle.curp_facts.specs.Predecessors.{Predecessors}
-use Rattle.curp_law_pairs.proofs.Along.{entry_along}
-use Rattle.curp_law_pairs.proofs.Logs.{log_ok}
+use Rattle.curp_law_runs.proofs.Along.{entry_along}
+use Rattle.curp_law_runs.proofs.Logs.{log_ok}
 use Rattle.curp_facts.specs.Migrated.{AllStored, Migrated, TakeStored}
 use Rattle.curp_facts.specs.Routes.{InWork, Routes, order_of}
 use Rattle.curp_law_linear.proofs.Found.{none_any}

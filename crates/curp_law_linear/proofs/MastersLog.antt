@@ -26,7 +26,7 @@ use Rattle.curp_law_logs.specs.Migrations.{give_number, take_number}
 use Rattle.curp_law_logs.proofs.Gives.{gives_fit_prefix}
 use Rattle.curp_law_logs.proofs.Logs.{log_prefix}
 use Rattle.curp_facts.specs.Predecessors.{Predecessors}
-use Rattle.curp_law_pairs.proofs.Logs.{range_ordered}
+use Rattle.curp_law_runs.proofs.Logs.{range_ordered}
 use Rattle.curp_facts.specs.Migrated.{Migrated}
 use Rattle.curp_facts.specs.Routes.{Routes}
 use Rattle.curp_law_linear.proofs.MastersRise.{new_fit, new_rise}

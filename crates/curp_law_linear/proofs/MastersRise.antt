@@ -36,11 +36,11 @@ use Rattle.curp_law_logs.specs.Migrations.{MovesNothing, give_number, take_numbe
 use Rattle.curp_law_logs.proofs.Gives.{gives_fit_append, gives_fit_from, package_ascends, package_within}
 use Rattle.curp_law_logs.proofs.Migrations.{owned_more}
 use Rattle.curp_law_logs.proofs.Packages.{take_package}
-use Rattle.curp_law_pairs.specs.Along.{HoldsOn}
+use Rattle.curp_law_runs.specs.Along.{HoldsOn}
 use Rattle.curp_facts.specs.Predecessors.{Predecessors}
-use Rattle.curp_law_pairs.proofs.Along.{entry_along}
-use Rattle.curp_law_pairs.proofs.Logs.{log_ok}
-use Rattle.curp_law_pairs.proofs.Words.{one_log}
+use Rattle.curp_law_runs.proofs.Along.{entry_along}
+use Rattle.curp_law_runs.proofs.Logs.{log_ok}
+use Rattle.curp_law_runs.proofs.Words.{one_log}
 use Rattle.curp_facts.specs.Migrated.{Migrated, TakeStored}
 use Rattle.curp_facts.specs.Routes.{IsMigrationDone, IsGiveOf, IsMoving, Routes, order_of}
 use Rattle.curp_law_linear.proofs.Found.{found_give}

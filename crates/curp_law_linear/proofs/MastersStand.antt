@@ -21,7 +21,7 @@ use Rattle.curp_law_kept.proofs.MastersMoves.{StageMove}
 use Rattle.curp_law_line.specs.OfWorld.{logged_entries}
 use Rattle.curp_facts.specs.Names.{RecoverOrderOk}
 use Rattle.curp_facts.specs.Predecessors.{Predecessor, Predecessors}
-use Rattle.curp_law_pairs.proofs.Words.{one_backup, one_witness}
+use Rattle.curp_law_runs.proofs.Words.{one_backup, one_witness}
 
 -- the log stays, and so does that there is one
 pub record SameLog (m k : MasterStage) : Type 0 where

@@ -55,8 +55,8 @@ use Rattle.curp_law_line.proofs.Lates.{late_low}
 use Rattle.curp_law_line.proofs.Discharged.{pure, second}
 use Rattle.curp_law_linear.proofs.ReadsStored.{from_stays}
 use Rattle.std.proofs.lemmas.Bool.{cases_lt}
-use Rattle.curp_law_pairs.proofs.Logs.{gives_within}
-use Rattle.curp_law_pairs.proofs.Lists.{ready}
+use Rattle.curp_law_runs.proofs.Logs.{gives_within}
+use Rattle.curp_law_runs.proofs.Lists.{ready}
 use Rattle.curp_msg.specs.Moved.{says}
 use Rattle.curp_cmd.specs.Node.{manager_node, client_node, master_node}
 use Rattle.curp_law_names.proofs.Lists.{among_each}

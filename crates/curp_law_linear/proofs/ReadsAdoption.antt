@@ -38,7 +38,7 @@ use Rattle.curp_law_linear.proofs.ReadsManagerSteps.{was_heard}
 use Rattle.curp_facts.specs.Names.{RecoveringOk}
 use Rattle.curp_law_names.proofs.Steps.{manager_moved, moved_messages}
 use Rattle.curp_facts.specs.Predecessors.{Predecessors}
-use Rattle.curp_law_pairs.proofs.Uttered.{manager_adopts}
+use Rattle.curp_law_runs.proofs.Uttered.{manager_adopts}
 use Rattle.curp_law_linear.proofs.CutsAdopt.{cuts_follow_adopted, cuts_cases}
 use Rattle.curp_law_line.specs.OfWorld.{log_of}
 use Rattle.curp_law_linear.proofs.CutsTimes.{timed_more}

@@ -45,7 +45,7 @@ use Rattle.curp_law_linear.proofs.ReadsStored.{stored_stays}
 use Rattle.curp_law_logs.proofs.Replayed.{replay_prefix}
 use Rattle.curp_facts.specs.Names.{IsOf, RecoveringOk}
 use Rattle.curp_facts.specs.Predecessors.{Predecessors}
-use Rattle.curp_law_pairs.proofs.Lists.{order_first}
+use Rattle.curp_law_runs.proofs.Lists.{order_first}
 use Rattle.curp_facts.specs.Migrated.{AllStored}
 use Rattle.curp_law_linear.proofs.Cuts.{cuts_stay}
 use Rattle.curp_law_line.specs.OfWorld.{cuts, entries_at, log_of, logged_entries}

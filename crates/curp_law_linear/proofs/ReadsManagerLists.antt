@@ -21,9 +21,9 @@ use Rattle.curp_law_linear.proofs.ReadsPassed.{NewerLists}
 use Rattle.curp_facts.specs.Names.{AdoptedOk}
 use Rattle.curp_law_names.proofs.Later.{Later, given_later}
 use Rattle.curp_law_names.proofs.Steps.{manager_moved, moved_messages}
-use Rattle.curp_law_pairs.specs.Adopting.{Comes, FromRecovery, FromReplacement}
-use Rattle.curp_law_pairs.proofs.Adopted.{adopted_back, adopted_word}
-use Rattle.curp_law_pairs.proofs.Uttered.{AdoptsOne, IsOld, NoNew, OneNew}
+use Rattle.curp_law_runs.specs.Adopting.{Comes, FromRecovery, FromReplacement}
+use Rattle.curp_law_runs.proofs.Adopted.{adopted_back, adopted_word}
+use Rattle.curp_law_runs.proofs.Uttered.{AdoptsOne, IsOld, NoNew, OneNew}
 use Rattle.curp_base.proofs.Numbered.{place, at_place}
 
 -- ---- nodes

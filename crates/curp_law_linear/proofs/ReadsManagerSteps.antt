@@ -27,7 +27,7 @@ use Rattle.curp_law_linear.proofs.ReadsManagerLists.{manager_said, newer_lists}
 use Rattle.curp_law_linear.specs.Refined.{NoAdoption}
 use Rattle.curp_law_names.proofs.Steps.{manager_moved, moved_messages}
 use Rattle.curp_facts.specs.Predecessors.{Predecessors}
-use Rattle.curp_law_pairs.proofs.Uttered.{WasHeard, manager_adopts}
+use Rattle.curp_law_runs.proofs.Uttered.{WasHeard, manager_adopts}
 use Rattle.curp_law_stays.proofs.Words.{Follows}
 
 -- where nothing completes and no recovery is adopted, the marks stay

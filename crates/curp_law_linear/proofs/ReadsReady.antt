@@ -26,8 +26,8 @@ use Rattle.curp_law_masters.proofs.Among.{each_tested}
 use Rattle.curp_law_masters.proofs.Synced.{acknowledged_many}
 use Rattle.curp_law_names.proofs.Lists.{among_each}
 use Rattle.curp_facts.specs.Predecessors.{Predecessor, Predecessors}
-use Rattle.curp_law_pairs.proofs.Adoptions.{adoptions_ok}
-use Rattle.curp_law_pairs.proofs.Lists.{order_first, ready}
+use Rattle.curp_law_runs.proofs.Adoptions.{adoptions_ok}
+use Rattle.curp_law_runs.proofs.Lists.{order_first, ready}
 use Rattle.curp_law_kept.proofs.MastersReady.{no_switch}
 
 -- a backup has acknowledged so many entries, and so late a round

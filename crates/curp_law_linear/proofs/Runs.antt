@@ -18,7 +18,7 @@ use Rattle.curp_law_names.proofs.Later.{Later}
 use Rattle.curp_law_names.proofs.Runs.{step_goes}
 use Rattle.curp_facts.specs.Kept.{LivesEarly}
 use Rattle.curp_law_linear.proofs.LivesEarly.{lives_step, lives_opening}
-use Rattle.curp_law_routes.proofs.Always.{Moving, migrated_now, moving_opening, moving_step}
+use Rattle.curp_law_runs.proofs.Always.{Moving, migrated_now, moving_opening, moving_step}
 
 -- what holds in every run, beside what nodes and messages keep
 pub record Orderly (w : World) : Type 0 where

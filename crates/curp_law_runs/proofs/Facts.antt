@@ -12,17 +12,17 @@ use Rattle.curp_facts.specs.Names.{Names}
 use Rattle.curp_msg.specs.Script.{IsRun}
 use Rattle.curp_law_logs.proofs.Frozen.{frozen_apart}
 use Rattle.curp_law_names.proofs.Runs.{always}
-use Rattle.curp_law_pairs.proofs.Adoptions.{adoptions_ok}
-use Rattle.curp_law_pairs.proofs.BackupsFollow.{backups_follow}
-use Rattle.curp_law_pairs.proofs.Collections.{collections_ok}
-use Rattle.curp_law_pairs.proofs.EarlyReplies.{early_replies_ok}
-use Rattle.curp_law_pairs.proofs.FirstNumbers.{first_numbers_ok}
-use Rattle.curp_law_pairs.proofs.Logs.{logs_ok}
-use Rattle.curp_law_pairs.proofs.MastersFollow.{masters_follow}
-use Rattle.curp_law_pairs.proofs.Pairs as pairs
-use Rattle.curp_law_pairs.proofs.Said.{said_ok}
-use Rattle.curp_law_routes.proofs.Always.{Moving, moving_all}
-use Rattle.curp_law_routes.proofs.Told.{given_stand}
+use Rattle.curp_law_runs.proofs.Adoptions.{adoptions_ok}
+use Rattle.curp_law_runs.proofs.BackupsFollow.{backups_follow}
+use Rattle.curp_law_runs.proofs.Collections.{collections_ok}
+use Rattle.curp_law_runs.proofs.EarlyReplies.{early_replies_ok}
+use Rattle.curp_law_runs.proofs.FirstNumbers.{first_numbers_ok}
+use Rattle.curp_law_runs.proofs.Logs.{logs_ok}
+use Rattle.curp_law_runs.proofs.MastersFollow.{masters_follow}
+use Rattle.curp_law_runs.proofs.Pairs as pairs
+use Rattle.curp_law_runs.proofs.Said.{said_ok}
+use Rattle.curp_law_runs.proofs.Always.{Moving, moving_all}
+use Rattle.curp_law_runs.proofs.Told.{given_stand}
 use Rattle.curp_base.proofs.Numbered.{at_place}
 
 -- each partition has its entry

@@ -1,6 +1,10 @@
 //! What holds after every step of every script: recoveries, replacements, migrations, collections, expiries and reads
 //! among its steps, superseded masters that go on, and steps that are refused. There is no code here: a law is the
 //! contract of a function with nothing in it, and a caller has the law by the call.
+//!
+//! Their proofs go from any one pair of a backup and a witness of an adopted list, which is enough to recover from
+//! (`specs/Along.antt` has what is found along the chain of adopted lists), by the ways of migrations, each of which goes
+//! from one partition to one other, is taken once and given once.
 #![tactic(auto)]
 
 ghost use Rattle.std.specs.Prelude.{◌≡◌, ℕ, List, Some, false, true};

@@ -8,13 +8,13 @@ ghost use Rattle.curp_msg.specs.Moved.{Moves, numbered_move};
 use crate::shell::Shell;
 use curp_base::NoMemory;
 use curp_cmd::{Command, NodeId};
-use curp_tail::Queue;
 use curp_log::Log;
 use curp_master_log::MasterLog;
 use curp_model::Wish;
 use curp_msg::{Body, Done, Local, Message};
 use curp_rounds::acknowledged::{Acknowledged, all_at, least_length, set_all};
 use curp_rounds::{Captured, Captures, Indexes, Phase};
+use curp_tail::Queue;
 use std::alloc::Global;
 use std::marker::Model;
 

@@ -13,10 +13,10 @@ use crate::MasterLog;
 use curp_base::{NoMemory, Shared};
 use curp_cmd::laws::names_one_to_four_keys;
 use curp_cmd::{Answer, Entry, Request};
-use curp_tail::Queue;
 use curp_log::Log;
 use curp_model::Check;
 use curp_rifl::Table;
+use curp_tail::Queue;
 use std::alloc::Global;
 
 /// What the suspects bring into the log. Those that were seen to come are known by their ids.

@@ -3,7 +3,7 @@
 //! The trait is `Core`, and the nodes are `ManagerNode`, `ClientNode`, `MasterNode`, `BackupNode` and `WitnessNode`.
 //! Their machines are in `specs/Machines.antt`, and are the definitions whole. `new` of each: exact, as at opening;
 //! `fresh` of masters, backups and witnesses: exact, as before anything came. What is proved of them stands in
-//! `curp_laws`, which the nodes don't know.
+//! `curp_world::laws`, which the nodes don't know.
 #![tactic(auto)]
 
 mod backup;

@@ -18,12 +18,12 @@ use curp_check::laws::orders_are_short;
 use curp_cmd::{Answer, KeptCommand, RequestId};
 use curp_io::{Sink, Source};
 use curp_law_print::{asked_is_in_range, event_is_in_range, printed_claims_are_read};
-use curp_laws::a_step_is_one_event;
 use curp_order::KeptEvent;
 use curp_print::print_event;
 use curp_runner::{Player, Status, close, run, write};
 use curp_script::{EventLine, Header, Step};
 use curp_world::World;
+use curp_world::laws::a_step_is_one_event;
 use std::alloc::Global;
 use std::marker::Model;
 

@@ -8,9 +8,9 @@ ghost use Rattle.curp_runner.specs.Reading.{IsBehind, IsOfReading, IsOfWriting};
 ghost use Rattle.curp_runner.specs.Status.{ended, is_cut_short};
 ghost use Rattle.curp_runner.specs.Check.{EndsAs, EndsJudged, GivesLineOf, IsBrokenClaim, IsJudgedPrefix, StopsAt, after_line, claim_due, is_verdict, status_of_verdict, verdict_text};
 
+use crate::{Status, close, write};
 use curp_check::{CLAIM_LIMIT, Claim, Verdict, check};
 use curp_io::{Lines, NextLine, Sink, Source};
-use crate::{Status, close, write};
 use curp_script::{LineError, LineReader};
 use std::alloc::Global;
 

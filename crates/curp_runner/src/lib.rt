@@ -17,8 +17,8 @@ mod running;
 mod status;
 mod writing;
 
+pub use claim::check_claim;
 pub use reading::ScriptLine;
 pub use running::{Player, run};
 pub use status::{Complaint, Status};
 pub use writing::{close, pass_on, write};
-pub use claim::check_claim;

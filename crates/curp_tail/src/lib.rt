@@ -19,6 +19,6 @@ mod queue;
 mod tail;
 mod touched;
 
+pub use queue::Queue;
 pub use tail::{Moved, Tail, TailEntry};
 pub use touched::Touched;
-pub use queue::Queue;

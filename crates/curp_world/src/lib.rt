@@ -9,6 +9,7 @@
 //!   stand, in that order, among those after it. `keeps`: all that every reached world keeps (`Kept`), by the call.
 #![tactic(auto)]
 
+pub mod laws;
 mod world;
 
 pub use curp_msg::{Header, Outcome, Step, StepResult};

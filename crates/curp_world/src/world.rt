@@ -99,9 +99,9 @@ impl World {
         ensures err { OnErr result (self.new ≡ self.old) }
     {
         names_its_keys(step);
-        curp_laws::order_grows();
-        curp_laws::results_have_causes();
-        curp_laws::only_the_named_node_moves();
+        crate::laws::order_grows();
+        crate::laws::results_have_causes();
+        crate::laws::only_the_named_node_moves();
         self.cluster.step(step)
     }
 
@@ -112,7 +112,7 @@ impl World {
     pub fn keeps(&self)
         ensures { Kept self.now }
     {
-        curp_laws::kept_stands();
+        crate::laws::kept_stands();
         // For what the world's type keeps.
         let _history = self.cluster.history();
     }
@@ -168,7 +168,7 @@ impl World {
         ensures events { result.now.events ≡ self.now.history }
         ensures is_history { IsHistory self.now.history }
     {
-        curp_laws::history_stands();
+        crate::laws::history_stands();
         self.cluster.history()
     }
 
@@ -177,7 +177,7 @@ impl World {
         ensures list { IfOk result (λ list. list.items ≡ world.answered_order self.now) }
         ensures is_order { IsOrder self.now.history (world.order self.now) }
     {
-        curp_laws::order_stands();
+        crate::laws::order_stands();
         self.cluster.order(alloc)
     }
 }

@@ -1,4 +1,0 @@
-pub mod Along
-pub mod Answered
-pub mod GivenStand
-pub mod Adopting
