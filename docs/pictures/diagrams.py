@@ -148,19 +148,18 @@ def master():
     return whole(800, 565, parts)
 
 
-# The layers, lowest row first: a name, what is in it, and its crates without their curp_. Left out are the tests, and
-# curp_laws, which passes laws on.
+# The layers, lowest row first: a name, what is in it, and its crates without their curp_. Left out are the tests.
 LAYERS = {
     "data": ("data", "messages, lines, bytes, words", "shared",
              "base io disk range cmd order items entries msg script report fields wire resp words same"),
-    "definitions": ("definitions", "what nodes and worlds are", "shared", "model facts text journal turns"),
+    "definitions": ("definitions", "what nodes and worlds are", "shared", "model facts journal"),
     "laws": ("laws", "what holds in every script", "law", "rows"),
     "parts": ("parts of the nodes", "log, replies, witness, ..", "code",
-              "slots backup rifl log tail collect rounds master recover client changes config"),
-    "verdicts": ("verdicts", "claims; lines read and done", "code", "check runner judge law_print"),
+              "slots backup rifl log tail rounds master recover client changes config"),
+    "verdicts": ("verdicts", "claims; lines read and done", "code", "check runner law_print"),
     "nodes": ("the nodes", "each behind Core", "code", "nodes opening"),
     "world": ("the world", "all nodes of a script", "code", "line cluster world serve"),
-    "threads": ("threads", "nodes with inboxes", "code", "seat ruled desk merge fronts gather gather_ruled live"),
+    "threads": ("threads", "nodes with inboxes", "code", "seat ruled desk merge gather live"),
     "words": ("words", "play, make, manage, resp", "code", "play manage gen session"),
     "program": ("the program", "run, main", "code", "run"),
 }
