@@ -2,28 +2,36 @@ ghost use Rattle.std.specs.Prelude.{◌≡◌};
 ghost use Rattle.curp_client.specs.Refusals.{invoke_number, retry_number};
 
 use curp_base::NoMemory;
+use thiserror::Error;
 
 /// Why a client invokes nothing.
-#[derive(Clone, Copy, Debug, PartialEq, Eq)]
+#[derive(Clone, Copy, Debug, PartialEq, Eq, Error)]
 pub enum InvokeError {
     /// It has 8 pending requests already.
+    #[error("the client has 8 pending requests already")]
     TooMany,
     /// Its numbers are at their end: the last was 2^32 - 1.
+    #[error("the client's numbers are at their end")]
     Numbers,
     /// No one partition of its configuration owns all keys of the command.
+    #[error("no one partition owns all keys of the command")]
     Split,
     /// There was no memory for the request or its messages.
+    #[error("out of memory")]
     NoMemory,
 }
 
 /// Why a client doesn't send a request again.
-#[derive(Clone, Copy, Debug, PartialEq, Eq)]
+#[derive(Clone, Copy, Debug, PartialEq, Eq, Error)]
 pub enum RetryError {
     /// No request of that number is pending.
+    #[error("no request of that number is pending")]
     NotPending,
     /// No one partition of its configuration owns all keys of the command.
+    #[error("no one partition owns all keys of the command")]
     Split,
     /// There was no memory for the attempt or its messages.
+    #[error("out of memory")]
     NoMemory,
 }
 

@@ -6,3 +6,4 @@ mod Hashed
 mod Values
 pub mod Apart
 mod Maps
+mod Digits

@@ -7,3 +7,4 @@ pub mod Node
 pub mod Pairs
 pub mod RequestId
 pub mod Store
+pub mod Text

@@ -11,7 +11,7 @@ use std::cmp::Ordering;
 
 /// What a client asks of the store. A command that can't be done as it stands (NotNumber, Overflow, TooLong, or another
 /// value than the expected one) leaves the store as it was.
-#[derive(Clone, Copy, PartialEq, Eq)]
+#[derive(Clone, Copy, Debug, PartialEq, Eq)]
 pub enum Command {
     /// The value of the key is read.
     Get(Key),
@@ -60,7 +60,7 @@ impl Command {
 }
 
 /// What the store answers.
-#[derive(Clone, Copy, PartialEq, Eq)]
+#[derive(Clone, Copy, Debug, PartialEq, Eq)]
 pub enum Answer {
     /// To a put or a multi-put: it is done, and there is nothing to tell.
     Done,
@@ -137,7 +137,7 @@ impl Ord for RequestId {
 }
 
 /// A request as it travels and stands in logs.
-#[derive(Clone, Copy, PartialEq, Eq)]
+#[derive(Clone, Copy, Debug, PartialEq, Eq)]
 pub struct Request {
     pub id: RequestId,
     /// The least request of that client that was pending when this one was invoked, itself counted.

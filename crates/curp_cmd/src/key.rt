@@ -11,6 +11,7 @@ use crate::in_place::hold;
 use std::cmp::Ordering;
 use std::hash::{Hash, Hasher};
 use std::marker::Model;
+use thiserror::Error;
 
 /// A key: 1 to 32 bytes, held in place and copied without memory. Contracts see the list of its bytes.
 #[derive(Clone, Copy)]
@@ -36,11 +37,13 @@ impl Model for Key {
 }
 
 /// Why bytes are no key.
-#[derive(Clone, Copy, Debug, PartialEq, Eq)]
+#[derive(Clone, Copy, Debug, PartialEq, Eq, Error)]
 pub enum KeyError {
     /// There is no byte.
+    #[error("a key has at least one byte")]
     Empty,
     /// There are more than 32 bytes.
+    #[error("a key has at most 32 bytes")]
     TooLong,
 }
 

@@ -8,6 +8,8 @@
 //! - `NodeId::client` and the other names of nodes; `==` of nodes and of ids: exact. `Hashes::of`: the hashes of a
 //!   command's keys, in place.
 //! - `key_hash`, `bytes_hash`: FNV-1a with 64 bits. `touches`, `conflict`: exact over the hashes of a command's keys.
+//! - `{}` of keys, values, commands, answers, ids and nodes: exact (`specs/Text.antt`). `Decimal`: a number, its text
+//!   alone. All have `Debug`, which no clause tells.
 //! - `KeptCommand`: the command of a request, shared with all who hold the request; `Standby`: places that stand ready
 //!   for it, so that keeping one takes no memory and doesn't fail. Contracts see the command.
 //! - `Entry`, `Package`, `TablePart`: what logs and migrations carry; `copy` and `room` are exact.
@@ -29,6 +31,7 @@ mod migration;
 mod node;
 mod pairs;
 mod store;
+mod text;
 mod value;
 
 pub use command::{Answer, Command, Request, RequestId};
@@ -41,4 +44,5 @@ pub use migration::{Package, TablePart};
 pub use node::{Keeper, NodeId, NodeKind};
 pub use pairs::{MultiError, Pairs};
 pub use store::Store;
+pub use text::Decimal;
 pub use value::{Value, ValueError};

@@ -7,6 +7,7 @@ ghost use Rattle.curp_cmd.specs.Pairs.{names_twice, pairs_eq};
 
 use crate::{Key, Value};
 use std::marker::Model;
+use thiserror::Error;
 
 /// What a multi-put puts: 1 to 4 pairs of a key and its value, no key twice, held in place and copied without memory.
 /// Contracts see the list of the pairs.
@@ -33,13 +34,16 @@ impl Model for Pairs {
 }
 
 /// Why pairs make no multi-put.
-#[derive(Clone, Copy, Debug, PartialEq, Eq)]
+#[derive(Clone, Copy, Debug, PartialEq, Eq, Error)]
 pub enum MultiError {
     /// There is no pair.
+    #[error("a multi-put has at least one pair")]
     NoPairs,
     /// There are more than 4 pairs.
+    #[error("a multi-put has at most 4 pairs")]
     TooManyPairs,
     /// Two of the pairs have one key.
+    #[error("a multi-put has no key twice")]
     KeyTwice,
 }
 

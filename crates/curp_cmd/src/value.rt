@@ -8,6 +8,7 @@ ghost use Rattle.curp_cmd.specs.Store.{number_in};
 
 use crate::in_place::hold;
 use std::marker::Model;
+use thiserror::Error;
 
 /// A value: 0 to 128 bytes, held in place and copied without memory. Contracts see the list of its bytes.
 #[derive(Clone, Copy)]
@@ -33,9 +34,10 @@ impl Model for Value {
 }
 
 /// Why bytes are no value.
-#[derive(Clone, Copy, Debug, PartialEq, Eq)]
+#[derive(Clone, Copy, Debug, PartialEq, Eq, Error)]
 pub enum ValueError {
     /// There are more than 128 bytes.
+    #[error("a value has at most 128 bytes")]
     TooLong,
 }
 

@@ -2,20 +2,24 @@ ghost use Rattle.std.specs.Prelude.{◌≡◌};
 
 use curp_base::NoMemory;
 use std::alloc::AllocFailed;
+use thiserror::Error;
 
 /// Bytes are no encoding. The place is that of the first byte of the first item, from the left, that isn't whole or may
 /// not stand there.
-#[derive(Clone, Copy, Debug, PartialEq, Eq)]
+#[derive(Clone, Copy, Debug, PartialEq, Eq, Error)]
+#[error("byte {place} is wrong")]
 pub struct Fault {
     pub place: u64,
 }
 
 /// Why a value that takes memory is not read.
-#[derive(Clone, Copy, Debug, PartialEq, Eq)]
+#[derive(Clone, Copy, Debug, PartialEq, Eq, Error)]
 pub enum ReadError {
     /// Bytes are no encoding, as a `Fault` says.
+    #[error("byte {place} is wrong")]
     Fault { place: u64 },
     /// There was no memory for the value.
+    #[error("out of memory")]
     NoMemory,
 }
 

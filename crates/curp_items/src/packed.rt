@@ -10,14 +10,17 @@ use curp_base::NoMemory;
 use curp_cmd::{Entry, Request};
 use std::alloc::Global;
 use std::mem;
+use thiserror::Error;
 
 /// Why an entry is not read.
-#[derive(Clone, Copy, Debug, PartialEq, Eq)]
+#[derive(Clone, Copy, Debug, PartialEq, Eq, Error)]
 pub enum EntryError {
     /// The bytes begin with no entry's encoding. The place is that of the first byte of the first item, from the left,
     /// that isn't whole or may not stand there.
+    #[error("no entry stands there: byte {place} is wrong")]
     BadEntry { place: u64 },
     /// There was no memory for the entry.
+    #[error("out of memory")]
     NoMemory,
 }
 

@@ -9,7 +9,8 @@ use Rattle.curp_manage.specs.Managed.{Managed, line_done, managed_opening}
 use Rattle.curp_msg.specs.declared.outcome.StepResult.TheVariants as step
 use Rattle.curp_runner.specs.Reading.{HoldsRead, SaidScript}
 use Rattle.curp_runner.specs.Run.{Rules, SaysOfBytes, line_texts_by, text_by}
-use Rattle.curp_report.specs.Text.{labelled, line, step_text}
+use Rattle.curp_cmd.specs.Text.{labelled}
+use Rattle.curp_report.specs.Text.{line, step_text}
 use Rattle.curp_script.specs.Manage.{manage_in}
 use Rattle.curp_script.specs.declared.manage.ManageLine.{ManageLine}
 

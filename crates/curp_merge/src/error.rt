@@ -2,12 +2,14 @@ use crate::mismatch::Mismatch;
 use curp_cmd::NodeId;
 use curp_journal::Named;
 use std::alloc::AllocError;
+use thiserror::Error;
 
 /// Why journals aren't a script.
-#[derive(Drop)]
+#[derive(Debug, Drop, Error)]
 pub enum GatherError {
     /// The item of that number of the node, counted from 1, took a message that isn't the one that its sender's journal
     /// holds by its name.
+    #[error("step {step} of {node} took a message that its sender didn't send")]
     Mismatch {
         node: NodeId,
         step: u64,
@@ -15,11 +17,14 @@ pub enum GatherError {
         kept: Option<Named>,
     },
     /// There are more than 200,000 items and last stops.
+    #[error("the journals have more than 200,000 steps")]
     TooManySteps,
     /// All that was sent weighs more than 2,000,000.
+    #[error("the messages weigh {weight}, which is more than 2,000,000")]
     TooLarge {
         weight: u64,
     },
+    #[error("out of memory")]
     NoMemory,
 }
 

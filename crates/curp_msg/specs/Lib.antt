@@ -1,5 +1,6 @@
 pub mod Example
 pub mod Limits
 pub mod Moved
+pub mod Text
 pub mod Weight
 pub mod Script

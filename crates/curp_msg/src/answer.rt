@@ -5,7 +5,7 @@ use curp_cmd::{Entry, Request, RequestId};
 use std::alloc::Global;
 
 /// Why a master doesn't answer a request. After CURP and RIFL; the cases are this project's.
-#[derive(Clone, Copy, PartialEq, Eq)]
+#[derive(Clone, Copy, Debug, PartialEq, Eq)]
 pub enum Refusal {
     /// The client knows another version of the lists than the current one.
     Version { current: u32 },
@@ -24,7 +24,7 @@ pub enum Refusal {
 }
 
 /// Why a witness doesn't hold a request.
-#[derive(Clone, Copy, PartialEq, Eq)]
+#[derive(Clone, Copy, Debug, PartialEq, Eq)]
 pub enum Reason {
     /// It holds a request that conflicts: this is the least one.
     Conflict { held: RequestId },
@@ -39,7 +39,7 @@ pub enum Reason {
 }
 
 /// What a backup answers to an append.
-#[derive(Clone, Copy, PartialEq, Eq)]
+#[derive(Clone, Copy, Debug, PartialEq, Eq)]
 pub enum AppendAnswer {
     /// Its log has this length now.
     Stored { length: u64 },

@@ -1,6 +1,8 @@
 //! The messages that nodes send, how much each weighs, and what every node is to the one that runs it.
 //!
 //! - `Message::copy`, `Body::copy` and the copies of their parts: exact.
+//! - `{}` of messages, of orders, of inputs, of what nodes do, refuse and complete: exact (`specs/Text.antt`). `{:?}` is
+//!   that text behind the name of the type, where it isn't derived.
 //! - `weight`: exact over `specs/Weight.antt`: 1, and 1 more for each entry, pair, record, id, partition and range that
 //!   a message carries; it stands still at 2^64 - 1.
 //! - `Core`, the trait of nodes. Its ghost member `machine` says which machine a node is, a function from a state and
@@ -19,6 +21,7 @@ mod machine;
 mod message;
 mod outcome;
 mod script;
+mod text;
 mod weighing;
 
 pub use answer::{AppendAnswer, FenceReply, GcAnswer, Reason, Refusal};

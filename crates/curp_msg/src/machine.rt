@@ -180,7 +180,7 @@ impl Done {
 }
 
 /// A request that completed, with its answer.
-#[derive(Clone, Copy, PartialEq, Eq)]
+#[derive(Clone, Copy, Debug, PartialEq, Eq)]
 pub struct Completed {
     pub id: RequestId,
     pub answer: Answer,
@@ -189,7 +189,7 @@ pub struct Completed {
 }
 
 /// A value that a master captured for a read.
-#[derive(Clone, Copy, PartialEq, Eq)]
+#[derive(Clone, Copy, Debug, PartialEq, Eq)]
 pub struct Capture {
     pub master: NodeId,
     pub epoch: u32,

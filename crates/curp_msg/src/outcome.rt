@@ -1,7 +1,7 @@
 use crate::Completed;
 
 /// How a step went.
-#[derive(Clone, Copy, PartialEq, Eq)]
+#[derive(Clone, Copy, Debug, PartialEq, Eq)]
 pub enum StepResult {
     /// It was made.
     Done,
@@ -20,7 +20,7 @@ pub enum StepResult {
 }
 
 /// What a step did.
-#[derive(Clone, Copy, PartialEq, Eq)]
+#[derive(Clone, Copy, Debug, PartialEq, Eq)]
 pub struct Outcome {
     pub result: StepResult,
     /// The number of the step's first message, were it to send one. Messages are numbered from 1 through the whole run.

@@ -2,7 +2,7 @@ use curp_base::Shared;
 use curp_cmd::{Command, Keeper, NodeId};
 
 /// The first line of a script: how many nodes there are, and how they work.
-#[derive(Clone, Copy, PartialEq, Eq)]
+#[derive(Clone, Copy, Debug, PartialEq, Eq)]
 pub struct Header {
     /// How many clients there are, 1 to 64.
     pub clients: u32,
@@ -20,7 +20,7 @@ pub struct Header {
 }
 
 /// How reads are done.
-#[derive(Clone, Copy, PartialEq, Eq)]
+#[derive(Clone, Copy, Debug, PartialEq, Eq)]
 pub enum Protocol {
     /// A read waits for a round to all backups.
     One,

@@ -6,6 +6,7 @@ use crate::spans;
 use curp_base::{NoMemory, Reserved};
 use std::alloc::Global;
 use std::marker::Model;
+use thiserror::Error;
 
 /// A set of hashes of 64 bits. Contracts see its spans, and for how many more spans it has room.
 /// A range from `lo` to `hi` has both of them.
@@ -25,16 +26,18 @@ impl Model for Ranges {
 }
 
 /// Why a range is not taken out.
-#[derive(Clone, Copy, Debug, PartialEq, Eq)]
+#[derive(Clone, Copy, Debug, PartialEq, Eq, Error)]
 pub enum TakeError {
     /// Some hash of the range is not owned.
+    #[error("some hash of the range isn't owned")]
     NotOwned,
 }
 
 /// Why a range is not put in.
-#[derive(Clone, Copy, Debug, PartialEq, Eq)]
+#[derive(Clone, Copy, Debug, PartialEq, Eq, Error)]
 pub enum PutError {
     /// Some hash of the range is owned already.
+    #[error("some hash of the range is owned already")]
     Overlap,
 }
 

@@ -1,12 +1,15 @@
 use crate::Phase;
 use curp_base::NoMemory;
+use thiserror::Error;
 
 /// Why a recovery doesn't take what comes.
-#[derive(Clone, Copy, Debug, PartialEq, Eq)]
+#[derive(Clone, Copy, Debug, PartialEq, Eq, Error)]
 pub enum RecoveryError {
     /// It is in a phase that doesn't wait for it, or it has it already.
+    #[error("the recovery doesn't wait for it now")]
     Ignored { phase: Phase },
     /// There was no memory for the replayed log or its messages.
+    #[error("out of memory")]
     NoMemory,
 }
 

@@ -15,22 +15,8 @@
 //! computed on it.
 #![tactic(auto)]
 
-mod backup;
-mod body;
-mod client;
-mod command;
-mod hash;
-mod manager;
-mod master;
-mod names;
 mod order;
 mod step;
-mod text;
-mod witness;
 
 pub use order::order_text;
 pub use step::{push_step_text, step_text};
-
-/// A value of another crate, as the text of a run shows it.
-#[derive(Drop)]
-pub(crate) struct Shown<T>(pub(crate) T);

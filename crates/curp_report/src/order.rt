@@ -1,8 +1,6 @@
 ghost use Rattle.std.specs.Prelude.{◌≡◌, IfOk};
 ghost use Rattle.curp_report.specs.Text.{order_text};
 
-use crate::Shown;
-use crate::names::push_id;
 use curp_base::NoMemory;
 use curp_cmd::{Answer, KeptCommand, RequestId};
 use std::alloc::Global;
@@ -18,8 +16,7 @@ pub fn order_text(
     let mut text = String::new(alloc);
     writeln!(text, "order {}", order.len())?;
     for (id, command, answer) in order {
-        push_id(&mut text, *id)?;
-        writeln!(text, " {} -> {}", Shown(**command), Shown(*answer))?;
+        writeln!(text, "{id} {} -> {answer}", **command)?;
     }
     Ok(text.into_bytes())
 }

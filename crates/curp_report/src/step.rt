@@ -1,12 +1,9 @@
-ghost use Rattle.std.specs.Prelude.{◌≡◌, ◌+◌, ◌<◌, ◌^◌, ◌++◌, ◌∷◌, [], codes, length, string_bytes};
+ghost use Rattle.std.specs.Prelude.{◌≡◌, ◌+◌, ◌<◌, ◌^◌, ◌++◌, length, string_bytes};
 ghost use Rattle.std.specs.Prelude.{IfOk, OnOk};
-ghost use Rattle.curp_report.specs.Text.{completed_line, labelled, message_line, message_lines, node_label, result_line, result_text, step_text, words};
+ghost use Rattle.curp_report.specs.Text.{completed_line, message_line, message_lines, result_line, step_text};
 
-use crate::Shown;
-use crate::body::push_body;
-use crate::names::{push_id, push_node};
-use crate::text::{push_decimal, push_labelled};
 use curp_base::NoMemory;
+use curp_cmd::Decimal;
 use curp_msg::{Completed, Message, Outcome, StepResult};
 use std::alloc::Global;
 
@@ -31,35 +28,16 @@ pub fn push_step_text(
 fn push_result_line(text: &mut String, number: u64, how: StepResult) -> Result<(), NoMemory>
     ensures { OnOk result (string_bytes text.new ≡ string_bytes text.old ++ result_line number how) }
 {
-    push_labelled(text, "s", number)?;
-    text.push(' ')?;
-    push_result(text, how)?;
-    text.push('\n')
+    writeln!(text, "s{} {how}", Decimal(number))
 }
 
 /// Adds the request that a step completed, if it did.
 fn push_completed(text: &mut String, completed: Option<Completed>) -> Result<(), NoMemory>
     ensures { OnOk result (string_bytes text.new ≡ string_bytes text.old ++ completed_line completed) }
 {
-    let Some(completed) = completed else {
-        return Ok(());
-    };
-    text.push_str("c ")?;
-    push_id(text, completed.id)?;
-    writeln!(text, " {}", Shown(completed.answer))
-}
-
-fn push_result(text: &mut String, how: StepResult) -> Result<(), NoMemory>
-    ensures { OnOk result (string_bytes text.new ≡ string_bytes text.old ++ result_text how) }
-{
-    match how {
-        StepResult::Done => text.push_str("done"),
-        StepResult::NoMessage => text.push_str("refused no-message"),
-        StepResult::NoNode => text.push_str("refused no-node"),
-        StepResult::Gone => text.push_str("refused gone"),
-        StepResult::Manager => text.push_str("refused manager"),
-        StepResult::Full { weight } => push_labelled(text, "refused full ", weight),
-        StepResult::Refused { number } => push_labelled(text, "refused call ", number as u64),
+    match completed {
+        Some(completed) => writeln!(text, "c {completed}"),
+        None => Ok(()),
     }
 }
 
@@ -92,20 +70,5 @@ fn push_messages(text: &mut String, first: u64, sent: &[Message]) -> Result<(), 
 fn push_message(text: &mut String, number: u64, message: &Message) -> Result<(), NoMemory>
     ensures { OnOk result (string_bytes text.new ≡ string_bytes text.old ++ message_line number message.now) }
 {
-    push_route(text, number, message)?;
-    text.push(' ')?;
-    push_body(text, &message.body)?;
-    text.push('\n')
-}
-
-/// Adds the number of a message, who sent it, and whom it goes to.
-fn push_route(text: &mut String, number: u64, message: &Message) -> Result<(), NoMemory>
-    ensures { OnOk result (string_bytes text.new ≡ string_bytes text.old ++ words (labelled (codes "m") number ∷ node_label message.now.from ∷ node_label message.now.to ∷ [])) }
-{
-    text.push('m')?;
-    push_decimal(text, number)?;
-    text.push(' ')?;
-    push_node(text, message.from)?;
-    text.push(' ')?;
-    push_node(text, message.to)
+    writeln!(text, "m{} {message}", Decimal(number))
 }

@@ -2,6 +2,7 @@ ghost use Rattle.std.specs.Prelude.{◌≡◌};
 ghost use Rattle.curp_script.specs.Text.{field_text};
 
 use curp_base::NoMemory;
+use std::error::Error;
 use std::fmt;
 
 /// Why a line is refused.
@@ -102,6 +103,8 @@ impl fmt::Display for LineError {
         }
     }
 }
+
+impl Error for LineError {}
 
 impl From<NoMemory> for LineError {
     ghost use Rattle.std.specs.Prelude.{◌≡◌};

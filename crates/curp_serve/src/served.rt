@@ -18,15 +18,19 @@ use curp_cmd::{Answer, Command};
 use curp_msg::{Header, Protocol, Step};
 use std::alloc::Global;
 use std::marker::Model;
+use thiserror::Error;
 
 /// Why a command isn't served to its end. The answer is there where the command was completed before that.
-#[derive(Clone, Copy, PartialEq, Eq)]
+#[derive(Clone, Copy, PartialEq, Eq, Debug, Error)]
 pub enum ServeError {
     /// The next step would be the 200,001st.
+    #[error("the next step would be the 200,001st")]
     TooManySteps { answer: Option<Answer> },
     /// No node gets anything more, since all messages weigh more than 2,000,000: this much.
+    #[error("the messages weigh {weight}, which is more than 2,000,000")]
     TooLarge { weight: u64, answer: Option<Answer> },
     /// There was no memory left.
+    #[error("out of memory")]
     NoMemory,
 }
 

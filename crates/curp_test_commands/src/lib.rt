@@ -11,3 +11,5 @@ mod kept;
 mod orders;
 #[cfg(test)]
 mod ranges;
+#[cfg(test)]
+mod texts;

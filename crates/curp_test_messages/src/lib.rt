@@ -12,4 +12,6 @@ mod marks;
 #[cfg(test)]
 mod messages;
 #[cfg(test)]
+mod texts;
+#[cfg(test)]
 mod witness;

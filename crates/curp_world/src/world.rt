@@ -21,14 +21,17 @@ use curp_order::History;
 use curp_script::{FieldName, bad_field};
 use std::alloc::Global;
 use std::marker::Model;
+use thiserror::Error;
 
 /// Why no world begins.
-#[derive(Clone, Copy, Debug, PartialEq, Eq)]
+#[derive(Clone, Copy, Debug, PartialEq, Eq, Error)]
 pub enum BeginError {
     /// The header's value of that name is out of its range. It is the first such name, in byte
     /// order.
+    #[error("the header's {field} is out of its range")]
     BadHeader { field: FieldName },
     /// There was no memory for it.
+    #[error("out of memory")]
     NoMemory,
 }
 

@@ -1,0 +1,10 @@
+//! The texts of what nodes send, answer and are ordered.
+
+mod body;
+mod client;
+mod keeper;
+mod lists;
+mod manager;
+mod master;
+mod order;
+mod step;

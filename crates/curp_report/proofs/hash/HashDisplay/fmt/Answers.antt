@@ -1,7 +1,0 @@
-use Rattle.curp_report.proofs.Hex.{hash_hole}
-use Rattle.curp_report.proofs.hash.HashDisplay.fmt.Goals as goal
-
-pub returns-clause-writes : goal.returns-clause-writes
-returns-clause-writes g c plain ok =
-    let wrote = rw (c.laid_out.ensures, c.in_radix.ensures, hash_hole c.args.self.now.0) at c.write.ensures.writes in
-    wrote plain ok
