@@ -1,6 +1,6 @@
-ghost use Rattle.std.specs.Prelude.{◌≡◌, ◌≢◌, ◌<◌, ◌↔◌, drop, IsTrue, OnErr, IfOk, Err};
+ghost use Rattle.std.specs.Prelude.{◌≡◌, ◌≢◌, ◌<◌, ◌≤◌, ◌↔◌, drop, length, IsTrue, OnErr, OnOk, IfOk, Err};
 ghost use Rattle.curp_model.specs.Backup.{fresh_backup, install, append, fence};
-ghost use Rattle.curp_entries.specs.Packed.{IsPackedPart};
+ghost use Rattle.curp_entries.specs.Packed.{IsPackedPart, IsShortTail};
 ghost use Rattle.curp_backup.specs.Answers.{AnswersAppend, AnswersFence, install_answer};
 
 use crate::{AppendError, FenceError, Fenced};
@@ -10,7 +10,8 @@ use curp_entries::PackedEntries;
 use std::alloc::Global;
 use std::marker::Model;
 
-/// A backup: it keeps the entries of a master of its epoch, and takes nothing of an epoch below its fence.
+/// A backup: it keeps the entries of a master of its epoch, and takes nothing of an epoch below its fence. Contracts see its
+/// state, and how many of the oldest entries of its log are packed.
 pub struct Backup {
     installed: Option<u32>,
     fence: u32,
@@ -28,17 +29,20 @@ impl Drop for Backup {
 }
 
 impl Model for Backup {
-    ghost use Rattle.curp_model.specs.Backup.{BackupState};
+    ghost use Rattle.curp_backup.specs.Content.{Content};
 
-    ghost Value = { BackupState };
+    ghost Value = { Content };
 
-    ghost view = { λ b. record { installed = b.installed; fence = b.fence; log = b.log.entries } };
+    ghost view = { λ b. record {
+      state = record { installed = b.installed; fence = b.fence; log = b.log.entries };
+      packed = b.log.packed;
+    } };
 }
 
 impl Backup {
     /// A backup that isn't installed, and keeps nothing yet. It takes no memory.
     pub fn new(alloc: Global) -> Backup
-        ensures { result ≡ fresh_backup }
+        ensures { result.state ≡ fresh_backup }
     {
         Backup {
             installed: None,
@@ -49,8 +53,9 @@ impl Backup {
 
     /// Installs the backup at that epoch, for good.
     pub fn install(&mut self, epoch: u32) -> Result<(), Fenced>
-        ensures state { self.new ≡ install self.old epoch }
-        ensures answer { result ≡ install_answer self.old epoch }
+        ensures state { self.new.state ≡ install self.old.state epoch }
+        ensures packed { self.new.packed ≡ self.old.packed }
+        ensures answer { result ≡ install_answer self.old.state epoch }
     {
         if self.is_fenced(epoch) {
             return Err(Fenced { epoch: self.fence });
@@ -66,7 +71,8 @@ impl Backup {
     }
 
     /// Takes entries that stand in the log of that epoch's master from `base` on, and gives the length of the log then.
-    /// The round takes no part: it is for the message that answers.
+    /// Of the entries that were there before, the oldest are packed first, so that fewer than 128 aren't, or else one of the
+    /// first 64 of those has no encoding. The round takes no part: it is for the message that answers.
     #[tactic(auto, unfolding(curp_model::specs::Backup::append))]
     pub fn append(
         &mut self,
@@ -75,9 +81,12 @@ impl Backup {
         entries: &[Entry],
         round: u64,
     ) -> Result<u64, AppendError>
-        ensures state { result ≢ Err AppendError.NoMemory → self.new ≡ (append self.old epoch base entries.now).state }
-        ensures answer { AnswersAppend result (append self.old epoch base entries.now).answer }
-        ensures err { OnErr result (self.new ≡ self.old) }
+        ensures state { result ≢ Err AppendError.NoMemory
+            → self.new.state ≡ (append self.old.state epoch base entries.now).state }
+        ensures answer { AnswersAppend result (append self.old.state epoch base entries.now).answer }
+        ensures err { OnErr result (self.new.state ≡ self.old.state) }
+        ensures short { OnOk result (IsShortTail (drop self.new.packed self.old.state.log)) }
+        ensures packed_before { OnOk result (self.new.packed ≤ length self.old.state.log) }
     {
         // The list is the same whether it was packed or not.
         let packed = self.log.pack();
@@ -99,8 +108,9 @@ impl Backup {
     /// Raises the fence to that epoch, and gives a copy of the whole log.
     #[tactic(auto, unfolding(curp_model::specs::Backup::fence))]
     pub fn fence(&mut self, epoch: u32) -> Result<Vec<Entry>, FenceError>
-        ensures state { result ≢ Err FenceError.NoMemory → self.new ≡ (fence self.old epoch).state }
-        ensures answer { AnswersFence result (fence self.old epoch).answer }
+        ensures state { result ≢ Err FenceError.NoMemory → self.new.state ≡ (fence self.old.state epoch).state }
+        ensures packed { self.new.packed ≡ self.old.packed }
+        ensures answer { AnswersFence result (fence self.old.state epoch).answer }
         ensures err { OnErr result (self.new ≡ self.old) }
     {
         if self.is_fenced(epoch) {
@@ -113,35 +123,36 @@ impl Backup {
 
     /// The epoch at which it is installed, if it is.
     pub fn epoch(&self) -> Option<u32>
-        ensures { result ≡ self.now.installed }
+        ensures { result ≡ self.now.state.installed }
     {
         self.installed
     }
 
     /// The epoch below which it takes nothing.
     pub fn fence_epoch(&self) -> u32
-        ensures { result ≡ self.now.fence }
+        ensures { result ≡ self.now.state.fence }
     {
         self.fence
     }
 
     /// A copy of the entries that it keeps.
     pub fn log(&self) -> Result<Vec<Entry>, NoMemory>
-        ensures { IfOk result (λ log. log.items ≡ self.now.log) }
+        ensures { IfOk result (λ log. log.items ≡ self.now.state.log) }
     {
         self.log.suffix(0)
     }
 
     /// How many of its oldest entries are packed, and their encodings, one behind the other.
     pub fn packed(&self) -> (u64, &[u8])
-        ensures { IsPackedPart self.now.log result.0 result.1.now }
+        ensures count { result.0 ≡ self.now.packed }
+        ensures part { IsPackedPart self.now.state.log result.0 result.1.now }
     {
         self.log.packed()
     }
 
     // Whether the fence is above that epoch.
     fn is_fenced(&self, epoch: u32) -> bool
-        ensures { IsTrue result ↔ (epoch < self.now.fence) }
+        ensures { IsTrue result ↔ (epoch < self.now.state.fence) }
     {
         epoch < self.fence
     }

@@ -8,8 +8,9 @@
 //! - `check` (the duplicate check), `owns`, `answer`, `store`, `table`, `ranges`, `package` (the last one taken),
 //!   `given` (the last migration given), `pack`: exact over what the log means, the fold of its entries. `request`,
 //!   `entry`, `suffix`, `between`, `len`, and `is_log`, the test whether entries are a log: exact.
-//! - The oldest entries are kept packed, as their encodings; `reserve` packs. `packed`: how many, and the encodings. What
-//!   asks for one request or for a part of the log costs what it reads.
+//! - The oldest entries are kept packed, as their encodings; `reserve` packs until fewer than 128 aren't packed, or one of
+//!   the first 64 of those has no encoding. `packed`: how many are, and the encodings. What asks for one request or for a
+//!   part of the log costs what it reads.
 //! - The check, and whether a hash is owned, are binary searches: no call but `is_log`, `pack` and the copies goes
 //!   through the log or the table. A take costs a search and a removal for each of its pairs, a give one and an
 //!   insertion.

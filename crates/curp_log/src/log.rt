@@ -8,7 +8,7 @@ ghost use Rattle.curp_range.specs.Spans.{is_owned};
 ghost use Rattle.curp_model.specs.Log.{IsLog, fits_at, is_log, is_pair_in, meaning};
 ghost use Rattle.curp_model.specs.Ranges.{owns_all};
 ghost use Rattle.curp_model.specs.Table.{check, packed};
-ghost use Rattle.curp_entries.specs.Packed.{IsPackedPart};
+ghost use Rattle.curp_entries.specs.Packed.{IsPackedPart, IsShortTail};
 ghost use Rattle.curp_entries.specs.Requests.{request_at};
 ghost use Rattle.curp_log.specs.Ops.{answer_at};
 ghost use Rattle.curp_log.specs.State.{given_of};
@@ -29,7 +29,7 @@ use std::marker::Model;
 
 /// The log of a master, with what it means: the store, the reply table, the owned hashes, the last package taken and the
 /// last migration given; and the answer to each of its Ops. Contracts see the range that the master began with, the
-/// entries, and for how much more there is room, in the units of `curp_cmd::room`.
+/// entries, how many of them are packed, and for how much more there is room, in the units of `curp_cmd::room`.
 pub struct Log {
     alloc: Global,
     lo: u64,
@@ -74,6 +74,7 @@ impl Model for Log {
       lo = l.lo;
       hi = l.hi;
       entries = l.entries.entries;
+      packed = l.entries.packed;
       spare = min l.entries.spare (min (vec_capacity l.answers - vec_len l.answers) (room_in l.state));
     } };
 
@@ -105,6 +106,7 @@ impl Log {
         ensures lo { self.new.lo ≡ self.old.lo }
         ensures hi { self.new.hi ≡ self.old.hi }
         ensures entries { self.new.entries ≡ self.old.entries }
+        ensures short { OnOk result (IsShortTail (drop self.new.packed self.new.entries)) }
         ensures room { OnOk result (units ≤ self.new.spare) }
         ensures kept { self.old.spare ≤ self.new.spare }
     {
@@ -121,6 +123,7 @@ impl Log {
         requires fits { fits_at (meaning self.old.lo self.old.hi self.old.entries) entry ≡ true }
         ensures index { result ≡ length self.old.entries }
         ensures entries { self.new.entries ≡ self.old.entries ++ entry ∷ [] }
+        ensures packed { self.new.packed ≡ self.old.packed }
         ensures lo { self.new.lo ≡ self.old.lo }
         ensures hi { self.new.hi ≡ self.old.hi }
         ensures spare { self.old.spare ≤ self.new.spare + room_of entry }
@@ -142,7 +145,8 @@ impl Log {
 
     /// How many of the oldest entries are packed, and their encodings, one behind the other.
     pub fn packed(&self) -> (u64, &[u8])
-        ensures { IsPackedPart self.now.entries result.0 result.1.now }
+        ensures count { result.0 ≡ self.now.packed }
+        ensures part { IsPackedPart self.now.entries result.0 result.1.now }
     {
         self.entries.packed()
     }

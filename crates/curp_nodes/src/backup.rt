@@ -35,7 +35,7 @@ impl Model for BackupNode {
 
     ghost Value = { Node BackupState };
 
-    ghost view = { λ n. record { number = n.number; state = n.backup } };
+    ghost view = { λ n. record { number = n.number; state = n.backup.state } };
 }
 
 impl BackupNode {
