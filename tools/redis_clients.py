@@ -200,6 +200,12 @@ class RedisPy:
     async def delete(self, key: str) -> int:
         return await self.call("DEL", key)
 
+    async def incr(self, key: str) -> int:
+        return await self.call("INCRBY", key, 1)
+
+    async def setnx(self, key: str, value: bytes | str | int) -> bool:
+        return await self.call("SETNX", key, value) == 1
+
     async def mset(self, pairs: dict) -> bool:
         return await self.call("MSET", *(word for pair in pairs.items() for word in pair)) == "OK"
 
@@ -231,9 +237,15 @@ async def redis_py(port: int, many: int) -> None:
         same("delete", [await redis.delete("py:b"), await redis.delete("py:b")], [1, 0])
         same("echo", await redis.echo("text"), b"text")
         await redis.delete("py:n")
-        # Its incr() sends INCRBY, which isn't of the table.
-        counts = [await redis.execute_command("INCR", "py:n") for _ in range(3)]
-        same("incr", counts, [1, 2, 3])
+        same("incr", [await redis.incr("py:n") for _ in range(3)], [1, 2, 3])
+        same("INCR", await redis.execute_command("INCR", "py:n"), 4)
+        for amount in (0, 2, -1, "1.5"):
+            await connection.refuses("INCRBY", "py:n", amount)
+        await connection.refuses("DECRBY", "py:n", 1)
+        same("incr behind errors", await redis.incr("py:n"), 5)
+        await redis.delete("py:new")
+        same("setnx", [await redis.setnx("py:new", 1), await redis.setnx("py:new", 2)], [True, False])
+        same("get behind setnx", await redis.get("py:new"), b"1")
         requests = [("SET", f"py:{number % 7}", number) for number in range(many)] + [("GETS", "a"), ("GET", "py:0")]
         told = await redis.pipeline(requests)
         same("puts of a pipeline", told[:many], ["OK"] * many)

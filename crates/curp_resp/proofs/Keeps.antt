@@ -11,7 +11,7 @@ use Rattle.curp_io.specs.Streams.{one_more}
 use Rattle.curp_resp.specs.Frames.{frame_step}
 use Rattle.curp_resp.specs.Kept.{KeptArguments, Parts, kept_by, parts_by}
 use Rattle.curp_resp.specs.KeptMeaning.{asked_behind_kept, asked_of_kept, meaning_of_kept}
-use Rattle.curp_resp.specs.Meaning.{are_pairs, asked_behind, asked_by, asked_of, key_alone, key_in, meaning, multi_alone, of_command, or_wrong, pair_alone, pair_in, pairs_in, spells, swap_alone, text_alone, value_in, word_of, word_text}
+use Rattle.curp_resp.specs.Meaning.{are_pairs, asked_behind, asked_by, asked_of, key_alone, key_in, key_of_increment, meaning, multi_alone, of_command, one_in, or_wrong, pair_alone, pair_in, pairs_in, spells, swap_alone, text_alone, value_in, word_of, word_text}
 use Rattle.curp_resp.specs.Read.{Read, Inside, Gives, Refuses, read_by}
 use Rattle.curp_resp.specs.declared.asked.Wrong.TheVariants as wrong
 use Rattle.curp_resp.specs.declared.frame.Effect.{Effect}
@@ -20,6 +20,7 @@ use Rattle.curp_resp.specs.declared.frame.Frame.{Frame}
 use Rattle.curp_resp.specs.declared.frame.Step.TheVariants as step
 use Rattle.curp_resp.specs.declared.word.Word.{Word}
 use Rattle.curp_resp.specs.declared.word.Word.TheVariants as word
+use Rattle.curp_resp.proofs.Integers.{integer_long}
 use Rattle.curp_resp.proofs.Runs.{read_on, read_refused, read_whole}
 
 -- ---- the first bytes, and the first arguments
@@ -128,6 +129,18 @@ value_kept m bytes room =
       | inr short ↦ ap value_in (take_all m bytes short)
     ]
 
+one_long : (bytes : List ℕ) → 20 < length bytes → one_in bytes ≡ Err wrong.NotInteger
+one_long bytes long = rw (integer_long bytes long) refl
+
+one_kept : (m : ℕ) (bytes : List ℕ) → 129 ≤ m → one_in (take m bytes) ≡ one_in bytes
+one_kept m bytes room =
+    elim (cases_lt m (length bytes)) [
+      | inl long ↦
+          let len : length (take m bytes) ≡ m = length-take-le m bytes (omega arith) in
+          one_long (take m bytes) (omega arith) ∙ sym (one_long bytes (omega arith))
+      | inr short ↦ ap one_in (take_all m bytes short)
+    ]
+
 pair_kept : (m : ℕ) (key value : List ℕ) → 129 ≤ m → pair_in (take m key) (take m value) ≡ pair_in key value
 pair_kept m key value room = rw (key_kept m key room, value_kept m value room) refl
 
@@ -140,6 +153,12 @@ key_alone_kept : (m : ℕ) (arguments : List (List ℕ)) → 129 ≤ m → key_a
 key_alone_kept m [] room = refl
 key_alone_kept m (key ∷ []) room = key_kept m key room
 key_alone_kept m (key ∷ other ∷ rest) room = refl
+
+increment_kept : (m : ℕ) (arguments : List (List ℕ)) → 129 ≤ m → key_of_increment (map (λ a. take m a) arguments) ≡ key_of_increment arguments
+increment_kept m [] room = refl
+increment_kept m (key ∷ []) room = refl
+increment_kept m (key ∷ increment ∷ []) room = rw (key_kept m key room, one_kept m increment room) refl
+increment_kept m (key ∷ increment ∷ other ∷ rest) room = refl
 
 pair_alone_kept : (m : ℕ) (arguments : List (List ℕ)) → 129 ≤ m → pair_alone (map (λ a. take m a) arguments) ≡ pair_alone arguments
 pair_alone_kept m [] room = refl
@@ -167,9 +186,11 @@ asked_kept word.Get m arguments room = rw (key_alone_kept m arguments room) refl
 asked_kept word.Set m arguments room = rw (pair_alone_kept m arguments room) refl
 asked_kept word.Del m arguments room = rw (key_alone_kept m arguments room) refl
 asked_kept word.Incr m arguments room = rw (key_alone_kept m arguments room) refl
+asked_kept word.IncrBy m arguments room = rw (increment_kept m arguments room) refl
 asked_kept word.Append m arguments room = rw (pair_alone_kept m arguments room) refl
 asked_kept word.CondPut m arguments room = ap of_command (swap_alone_kept m arguments room)
 asked_kept word.CondNew m arguments room = rw (pair_alone_kept m arguments room) refl
+asked_kept word.SetNx m arguments room = rw (pair_alone_kept m arguments room) refl
 asked_kept word.MSet m arguments room = ap of_command (multi_alone_kept m arguments room)
 asked_kept word.Echo m arguments room = rw (text_alone_kept m arguments room) refl
 
@@ -179,6 +200,12 @@ key_alone_long : (arguments : List (List ℕ)) → 9 ≤ length arguments → ke
 key_alone_long [] many = absurd (omega arith)
 key_alone_long (key ∷ []) many = absurd (omega arith)
 key_alone_long (key ∷ other ∷ rest) many = refl
+
+increment_long : (arguments : List (List ℕ)) → 9 ≤ length arguments → key_of_increment arguments ≡ Err wrong.Arguments
+increment_long [] many = absurd (omega arith)
+increment_long (key ∷ []) many = absurd (omega arith)
+increment_long (key ∷ increment ∷ []) many = absurd (omega arith)
+increment_long (key ∷ increment ∷ other ∷ rest) many = refl
 
 pair_alone_long : (arguments : List (List ℕ)) → 9 ≤ length arguments → pair_alone arguments ≡ Err wrong.Arguments
 pair_alone_long [] many = absurd (omega arith)
@@ -209,9 +236,11 @@ asked_long word.Get arguments many = rw (key_alone_long arguments many) refl
 asked_long word.Set arguments many = rw (pair_alone_long arguments many) refl
 asked_long word.Del arguments many = rw (key_alone_long arguments many) refl
 asked_long word.Incr arguments many = rw (key_alone_long arguments many) refl
+asked_long word.IncrBy arguments many = rw (increment_long arguments many) refl
 asked_long word.Append arguments many = rw (pair_alone_long arguments many) refl
 asked_long word.CondPut arguments many = ap of_command (swap_alone_long arguments many)
 asked_long word.CondNew arguments many = rw (pair_alone_long arguments many) refl
+asked_long word.SetNx arguments many = rw (pair_alone_long arguments many) refl
 asked_long word.MSet arguments many = ap of_command (multi_alone_long arguments many)
 asked_long word.Echo arguments many = rw (text_alone_long arguments many) refl
 
@@ -229,9 +258,11 @@ word_short word.Get = omega arith
 word_short word.Set = omega arith
 word_short word.Del = omega arith
 word_short word.Incr = omega arith
+word_short word.IncrBy = omega arith
 word_short word.Append = omega arith
 word_short word.CondPut = omega arith
 word_short word.CondNew = omega arith
+word_short word.SetNx = omega arith
 word_short word.MSet = omega arith
 word_short word.Echo = omega arith
 
@@ -247,9 +278,11 @@ word_long bytes long =
       spells_long bytes word.Set long,
       spells_long bytes word.Del long,
       spells_long bytes word.Incr long,
+      spells_long bytes word.IncrBy long,
       spells_long bytes word.Append long,
       spells_long bytes word.CondPut long,
       spells_long bytes word.CondNew long,
+      spells_long bytes word.SetNx long,
       spells_long bytes word.MSet long,
       spells_long bytes word.Echo long,
     ) refl

@@ -5,6 +5,7 @@ pub mod Exactly
 pub mod Feeding
 pub mod Prefixes
 pub mod InPlace
+pub mod Integers
 pub mod Inwards
 pub mod Keeps
 pub mod Numbers

@@ -36,7 +36,7 @@ fresh_ends most digits value h = record {
 }
 
 -- digits don't lower a number
-behind_least : (value : ℕ) (digits : List ℕ) → value ≤ number_behind value digits
+pub behind_least : (value : ℕ) (digits : List ℕ) → value ≤ number_behind value digits
 behind_least value [] = omega arith
 behind_least value (digit ∷ digits) = omega (arith, behind_least (10 * value + (digit - 48)) digits)
 

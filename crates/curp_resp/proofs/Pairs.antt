@@ -34,3 +34,18 @@ four_pairs (a ∷ b ∷ c ∷ d ∷ e ∷ f ∷ g ∷ h ∷ []) p q r s len pref
     let two = both_there (pair_in e f) (pair_in g h) r s back in
     rw (one.0, one.1, two.0, two.1) (refused (names_twice (p ∷ q ∷ r ∷ s ∷ [])) wrong.KeyTwice (command.Multi (p ∷ q ∷ r ∷ s ∷ [])))
 four_pairs _ p q r s len prefix back = absurd (omega arith)
+
+-- the error of two that aren't both there is that of what follows on them
+pub four_pairs_not : (arguments : List (List ℕ)) (p q : Pair) (why : Wrong) → length arguments ≡ 8
+    → two_pairs_alone (take 4 arguments) ≡ Ok (p, q) → two_pairs_alone (drop 4 arguments) ≡ Err why → multi_alone arguments ≡ Err why
+four_pairs_not (a ∷ b ∷ c ∷ d ∷ e ∷ f ∷ g ∷ h ∷ []) p q why len prefix back =
+    let one = both_there (pair_in a b) (pair_in c d) p q prefix in
+    rw (one.0, one.1) (by (pair_in e f) (pair_in g h) back)
+  where
+    by : (r s : Result Pair Wrong) → both r s ≡ Err why
+        → ((((r >>= λ x. (s >>= λ y. Ok (y ∷ [])) >>= λ ys. Ok (x ∷ ys)) >>= λ rest. Ok (q ∷ rest)) >>= λ rest. Ok (p ∷ rest))
+        >>= λ pairs. refuse_if (names_twice pairs) wrong.KeyTwice >>= λ _. Ok (command.Multi pairs)) ≡ Err why
+    by (Ok x) (Ok y) h = absurd cc
+    by (Ok x) (Err i) h = let same : i ≡ why = cc in rw same refl
+    by (Err i) s h = let same : i ≡ why = cc in rw same refl
+four_pairs_not _ p q why len prefix back = absurd (omega arith)

@@ -3,6 +3,7 @@ pub mod Feeds
 pub mod First
 pub mod Frames
 pub mod Input
+pub mod Integer
 pub mod Kept
 pub mod KeptMeaning
 pub mod Language

@@ -1,11 +1,12 @@
 -- What requests mean (this project's own words).
 use Rattle.std.specs.Prelude.{ℕ, ◌==◌, ◌&&◌, ◌||◌, nat_le, not, Bool, codes, find, if◌then◌else◌, List, [], ◌∷◌}
-use Rattle.std.specs.Prelude.{length, Option, Some, None, Result, Ok, Err}
-use Rattle.std.specs.Str.{str_eq_ignore_ascii_case}
+use Rattle.std.specs.Prelude.{length, Option, Some, None, Result, Ok, Err, ⊤}
+use Rattle.std.specs.Str.{bytes_eq, str_eq_ignore_ascii_case}
 use Rattle.curp_base.specs.Cases.{◌>>=◌, refuse_if}
 use Rattle.curp_cmd.specs.Pairs.{Pair, names_twice}
 use Rattle.curp_cmd.specs.declared.command.Command.{Command}
 use Rattle.curp_cmd.specs.declared.command.Command.TheVariants as command
+use Rattle.curp_resp.specs.Integer.{is_integer}
 use Rattle.curp_resp.specs.declared.asked.Asked.{Asked}
 use Rattle.curp_resp.specs.declared.asked.Asked.TheVariants as asked
 use Rattle.curp_resp.specs.declared.asked.Other.TheVariants as other
@@ -19,16 +20,29 @@ use Rattle.curp_resp.specs.declared.word.Word.TheVariants as word
 -- the words that a request may begin with
 abbrev pub words : List Word
 words =
-    word.Get ∷ word.Set ∷ word.Del ∷ word.Incr ∷ word.Append ∷ word.CondPut ∷ word.CondNew ∷ word.MSet ∷ word.Echo ∷ []
+    word.Get
+    ∷ word.Set
+    ∷ word.Del
+    ∷ word.Incr
+    ∷ word.IncrBy
+    ∷ word.Append
+    ∷ word.CondPut
+    ∷ word.CondNew
+    ∷ word.SetNx
+    ∷ word.MSet
+    ∷ word.Echo
+    ∷ []
 
 abbrev pub word_text : Word → List ℕ
 word_text word.Get = codes "GET"
 word_text word.Set = codes "SET"
 word_text word.Del = codes "DEL"
 word_text word.Incr = codes "INCR"
+word_text word.IncrBy = codes "INCRBY"
 word_text word.Append = codes "APPEND"
 word_text word.CondPut = codes "CONDPUT"
 word_text word.CondNew = codes "CONDNEW"
+word_text word.SetNx = codes "SETNX"
 word_text word.MSet = codes "MSET"
 word_text word.Echo = codes "ECHO"
 
@@ -50,6 +64,11 @@ key_in bytes = if nat_le 1 (length bytes) && nat_le (length bytes) 32 then Ok by
 abbrev pub value_in : List ℕ → Result (List ℕ) Wrong
 value_in bytes = if nat_le (length bytes) 128 then Ok bytes else Err wrong.Size
 
+-- a counter grows by 1 alone
+abbrev pub one_in : List ℕ → Result ⊤ Wrong
+one_in bytes =
+    refuse_if (not (is_integer bytes)) wrong.NotInteger >>= λ _. refuse_if (not (bytes_eq bytes (codes "1"))) wrong.NotOne
+
 abbrev pub pair_in : List ℕ → List ℕ → Result Pair Wrong
 pair_in key value = key_in key >>= λ k. value_in value >>= λ v. Ok (k, v)
 
@@ -65,6 +84,11 @@ pairs_in (key ∷ value ∷ rest) = pair_in key value >>= λ p. pairs_in rest >>
 abbrev pub key_alone : List (List ℕ) → Result (List ℕ) Wrong
 key_alone (key ∷ []) = key_in key
 key_alone _ = Err wrong.Arguments
+
+-- two arguments, a key and by how much its counter grows
+abbrev pub key_of_increment : List (List ℕ) → Result (List ℕ) Wrong
+key_of_increment (key ∷ increment ∷ []) = key_in key >>= λ k. one_in increment >>= λ _. Ok k
+key_of_increment _ = Err wrong.Arguments
 
 -- two arguments, a key and a value
 abbrev pub pair_alone : List (List ℕ) → Result Pair Wrong
@@ -103,9 +127,11 @@ asked_by word.Get arguments = of_command (key_alone arguments >>= λ key. Ok (co
 asked_by word.Set arguments = of_command (pair_alone arguments >>= λ p. Ok (command.Put p.0 p.1))
 asked_by word.Del arguments = of_command (key_alone arguments >>= λ key. Ok (command.Delete key))
 asked_by word.Incr arguments = of_command (key_alone arguments >>= λ key. Ok (command.Incr key))
+asked_by word.IncrBy arguments = of_command (key_of_increment arguments >>= λ key. Ok (command.Incr key))
 asked_by word.Append arguments = of_command (pair_alone arguments >>= λ p. Ok (command.Append p.0 p.1))
 asked_by word.CondPut arguments = of_command (swap_alone arguments)
 asked_by word.CondNew arguments = of_command (pair_alone arguments >>= λ p. Ok (command.CondPut p.0 None p.1))
+asked_by word.SetNx arguments = of_command (pair_alone arguments >>= λ p. Ok (command.CondPut p.0 None p.1))
 asked_by word.MSet arguments = of_command (multi_alone arguments)
 asked_by word.Echo arguments = text_alone arguments >>= λ text. Ok (asked.Other (other.Echo text))
 

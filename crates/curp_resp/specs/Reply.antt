@@ -55,6 +55,8 @@ wrong_of wrong.Unknown = error (codes "unknown command")
 wrong_of wrong.Arguments = error (codes "arguments")
 wrong_of wrong.Size = error (codes "size")
 wrong_of wrong.KeyTwice = error (codes "key twice")
+wrong_of wrong.NotInteger = error (codes "value is not an integer or out of range")
+wrong_of wrong.NotOne = error (codes "increment by 1 only")
 
 -- the reply to a request that means no command; one that asks nothing gets none
 abbrev pub other_of : Other → List ℕ

@@ -1,8 +1,9 @@
 ghost use Rattle.std.specs.Prelude.{◌≡◌, [], ◌∷◌, ◌++◌, length, nat_lt, if◌then◌else◌, Ok, Err, MatchResult};
 ghost use Rattle.curp_resp.specs.Kept.{most_bytes};
-ghost use Rattle.curp_resp.specs.Meaning.{key_in, pair_in, value_in};
+ghost use Rattle.curp_resp.specs.Meaning.{key_in, one_in, pair_in, value_in};
 
 use crate::asked::Wrong;
+use crate::integer::is_integer;
 use curp_cmd::{Key, Value};
 use std::marker::Model;
 
@@ -69,6 +70,20 @@ impl Argument {
         ensures { result ≡ value_in self.now }
     {
         Value::new(self.bytes()).map_err(|_| Wrong::Size)
+    }
+
+    /// Refuses all but 1.
+    pub(crate) fn one(&self) -> Result<(), Wrong>
+        ensures { result ≡ one_in self.now }
+    {
+        let bytes = self.bytes();
+        if !is_integer(bytes) {
+            return Err(Wrong::NotInteger);
+        }
+        if bytes != b"1".as_slice() {
+            return Err(Wrong::NotOne);
+        }
+        Ok(())
     }
 }
 

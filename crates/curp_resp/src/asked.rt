@@ -30,4 +30,8 @@ pub enum Wrong {
     Size,
     /// A key stands twice among the pairs of an MSET.
     KeyTwice,
+    /// What a counter is to grow by is no integer of 64 bits.
+    NotInteger,
+    /// It is one, but not 1.
+    NotOne,
 }

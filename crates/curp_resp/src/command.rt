@@ -1,7 +1,7 @@
 ghost use Rattle.std.specs.Prelude.{◌≡◌, ◌≤◌, length, if◌then◌else◌, Ok, Err};
 ghost use Rattle.curp_cmd.specs.Pairs.{names_twice};
 ghost use Rattle.curp_resp.specs.KeptMeaning.{asked_of_kept, meaning_of_kept, two_pairs_alone};
-ghost use Rattle.curp_resp.specs.Meaning.{asked_by, key_alone, multi_alone, pair_alone, swap_alone, text_alone};
+ghost use Rattle.curp_resp.specs.Meaning.{asked_by, key_alone, key_of_increment, multi_alone, pair_alone, swap_alone, text_alone};
 
 use crate::argument::{Argument, pair_of};
 use crate::arguments::Arguments;
@@ -43,6 +43,7 @@ fn asked_by(word: Word, arguments: &[Argument]) -> Result<Asked, Wrong>
         Word::Get => Command::Get(key_alone(arguments)?),
         Word::Del => Command::Delete(key_alone(arguments)?),
         Word::Incr => Command::Incr(key_alone(arguments)?),
+        Word::IncrBy => Command::Incr(key_of_increment(arguments)?),
         Word::Set => {
             let (key, value) = pair_alone(arguments)?;
             Command::Put(key, value)
@@ -51,7 +52,7 @@ fn asked_by(word: Word, arguments: &[Argument]) -> Result<Asked, Wrong>
             let (key, more) = pair_alone(arguments)?;
             Command::Append(key, more)
         }
-        Word::CondNew => {
+        Word::CondNew | Word::SetNx => {
             let (key, value) = pair_alone(arguments)?;
             Command::CondPut(key, None, value)
         }
@@ -67,6 +68,20 @@ fn key_alone(arguments: &[Argument]) -> Result<Key, Wrong>
 {
     match arguments {
         [key] => key.key(),
+        _ => Err(Wrong::Arguments),
+    }
+}
+
+/// A key, and what its counter is to grow by, which is 1.
+fn key_of_increment(arguments: &[Argument]) -> Result<Key, Wrong>
+    ensures { result ≡ key_of_increment arguments.now }
+{
+    match arguments {
+        [key, increment] => {
+            let key = key.key()?;
+            increment.one()?;
+            Ok(key)
+        }
         _ => Err(Wrong::Arguments),
     }
 }

@@ -11,10 +11,10 @@
 //! | `GET k` | get | `$len\r\nbytes\r\n`, or `$-1\r\n` for none |
 //! | `SET k v` | put | `+OK\r\n` |
 //! | `DEL k` | delete | `:1\r\n` or `:0\r\n` |
-//! | `INCR k` | increment | `:n\r\n`, above 2^63 - 1 a bulk string of the digits |
+//! | `INCR k`, `INCRBY k 1` | increment | `:n\r\n`, above 2^63 - 1 a bulk string of the digits |
 //! | `APPEND k v` | append | `:length\r\n` |
 //! | `CONDPUT k e v` | conditional put that expects e | `:1\r\n` or `:0\r\n` |
-//! | `CONDNEW k v` | conditional put that expects no value | `:1\r\n` or `:0\r\n` |
+//! | `CONDNEW k v`, `SETNX k v` | conditional put that expects no value | `:1\r\n` or `:0\r\n` |
 //! | `MSET k v ..` | multi-put of 1 to 4 pairs | `+OK\r\n` |
 //! | `ECHO text` | none | `$len\r\ntext\r\n`, the text of 0 to 128 bytes |
 //!
@@ -38,6 +38,7 @@ mod asked;
 mod command;
 mod first;
 mod frame;
+mod integer;
 pub mod laws;
 mod number;
 mod reading;

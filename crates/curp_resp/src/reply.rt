@@ -47,6 +47,8 @@ pub fn wrong_text(alloc: Global, wrong: Wrong) -> Result<Vec<u8>, NoMemory>
         Wrong::Arguments => error(alloc, "arguments"),
         Wrong::Size => error(alloc, "size"),
         Wrong::KeyTwice => error(alloc, "key twice"),
+        Wrong::NotInteger => error(alloc, "value is not an integer or out of range"),
+        Wrong::NotOne => error(alloc, "increment by 1 only"),
     }
 }
 

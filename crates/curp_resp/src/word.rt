@@ -8,21 +8,25 @@ pub(crate) enum Word {
     Set,
     Del,
     Incr,
+    IncrBy,
     Append,
     CondPut,
     CondNew,
+    SetNx,
     MSet,
     Echo,
 }
 
-const WORDS: [Word; 9] = [
+const WORDS: [Word; 11] = [
     Word::Get,
     Word::Set,
     Word::Del,
     Word::Incr,
+    Word::IncrBy,
     Word::Append,
     Word::CondPut,
     Word::CondNew,
+    Word::SetNx,
     Word::MSet,
     Word::Echo,
 ];
@@ -49,9 +53,11 @@ impl Word {
             Word::Set => "SET",
             Word::Del => "DEL",
             Word::Incr => "INCR",
+            Word::IncrBy => "INCRBY",
             Word::Append => "APPEND",
             Word::CondPut => "CONDPUT",
             Word::CondNew => "CONDNEW",
+            Word::SetNx => "SETNX",
             Word::MSet => "MSET",
             Word::Echo => "ECHO",
         }

@@ -9,7 +9,7 @@ use Rattle.curp_cmd.specs.Pairs.{Pair, names_twice}
 use Rattle.curp_cmd.specs.Store.{NamesKey, keys_of}
 use Rattle.curp_cmd.specs.declared.command.Command.{Command}
 use Rattle.curp_cmd.specs.declared.command.Command.TheVariants as command
-use Rattle.curp_resp.specs.Meaning.{are_pairs, asked_behind, key_alone, meaning, multi_alone, of_command, or_wrong, pair_alone, pair_in, pairs_in, spells, swap_alone, text_alone, value_in, words}
+use Rattle.curp_resp.specs.Meaning.{are_pairs, asked_behind, key_alone, key_of_increment, meaning, multi_alone, of_command, or_wrong, pair_alone, pair_in, pairs_in, spells, swap_alone, text_alone, value_in, words}
 use Rattle.curp_resp.specs.declared.asked.Asked.{Asked}
 use Rattle.curp_resp.specs.declared.asked.Asked.TheVariants as asked
 use Rattle.curp_resp.specs.declared.asked.Other.TheVariants as other
@@ -129,12 +129,18 @@ names_keys (first ∷ arguments) =
           (
             by_key (λ key. command.Incr key) (λ key. one_key (command.Incr key) key refl) (key_alone arguments),
             (
-              by_pair (λ p. command.Append p.0 p.1) (λ p. one_key (command.Append p.0 p.1) p.0 refl) (pair_alone arguments),
+              by_key (λ key. command.Incr key) (λ key. one_key (command.Incr key) key refl) (key_of_increment arguments),
               (
-                by_three arguments,
+                by_pair (λ p. command.Append p.0 p.1) (λ p. one_key (command.Append p.0 p.1) p.0 refl) (pair_alone arguments),
                 (
-                  by_pair (λ p. command.CondPut p.0 None p.1) (λ p. one_key (command.CondPut p.0 None p.1) p.0 refl) (pair_alone arguments),
-                  (multi_names arguments, (asks_nothing (text_alone arguments), tt)),
+                  by_three arguments,
+                  (
+                    by_pair (λ p. command.CondPut p.0 None p.1) (λ p. one_key (command.CondPut p.0 None p.1) p.0 refl) (pair_alone arguments),
+                    (
+                      by_pair (λ p. command.CondPut p.0 None p.1) (λ p. one_key (command.CondPut p.0 None p.1) p.0 refl) (pair_alone arguments),
+                      (multi_names arguments, (asks_nothing (text_alone arguments), tt)),
+                    ),
+                  ),
                 ),
               ),
             ),

@@ -104,6 +104,9 @@ fn each_wrong_request_has_its_reply(rt: HostRuntime) {
     wrong_row(&rt, alloc, Wrong::Arguments, "-ERR arguments\r\n");
     wrong_row(&rt, alloc, Wrong::Size, "-ERR size\r\n");
     wrong_row(&rt, alloc, Wrong::KeyTwice, "-ERR key twice\r\n");
+    let not_integer = "-ERR value is not an integer or out of range\r\n";
+    wrong_row(&rt, alloc, Wrong::NotInteger, not_integer);
+    wrong_row(&rt, alloc, Wrong::NotOne, "-ERR increment by 1 only\r\n");
     let text = b"-ERR protocol\r\n".as_slice();
     must_hold(&rt, "protocol", protocol_text() == text);
 }

@@ -281,6 +281,8 @@ fn each_word_has_its_command(rt: HostRuntime) {
     row(&rt, alloc, "gEt a", Command::Get(a));
     row(&rt, alloc, "DEL a", Command::Delete(a));
     row(&rt, alloc, "INCR a", Command::Incr(a));
+    row(&rt, alloc, "INCRBY a 1", Command::Incr(a));
+    row(&rt, alloc, "incrby a 1", Command::Incr(a));
     try_words(&rt, alloc, "ECHO a", echo(&rt, "a"));
     try_words(&rt, alloc, "echo ECHO", echo(&rt, "ECHO"));
 }
@@ -304,11 +306,12 @@ fn each_word_with_values_has_its_command(rt: HostRuntime) {
         Command::CondPut(a, Some(one), two),
     );
     row(&rt, alloc, "CONDNEW a 1", Command::CondPut(a, None, one));
+    row(&rt, alloc, "SETNX a 1", Command::CondPut(a, None, one));
     let pairs = [(key(&rt, "b"), one), (a, two)];
     row(&rt, alloc, "MSET b 1 a 2", multi(&rt, &pairs));
 }
 
-static WRONGS: [(&str, Wrong); 23] = [
+static WRONGS: [(&str, Wrong); 29] = [
     ("PING", Wrong::Unknown),
     ("CLIENT SETINFO LIB-NAME redis-py", Wrong::Unknown),
     ("HELLO 3", Wrong::Unknown),
@@ -316,6 +319,8 @@ static WRONGS: [(&str, Wrong); 23] = [
     ("ECHO", Wrong::Arguments),
     ("ECHO a b", Wrong::Arguments),
     ("GETS a", Wrong::Unknown),
+    ("INCRBYS a 1", Wrong::Unknown),
+    ("DECRBY a 1", Wrong::Unknown),
     ("GE a", Wrong::Unknown),
     ("PUT a 1", Wrong::Unknown),
     ("a GET", Wrong::Unknown),
@@ -323,6 +328,10 @@ static WRONGS: [(&str, Wrong); 23] = [
     ("GET a b", Wrong::Arguments),
     ("SET a", Wrong::Arguments),
     ("SET a 1 2", Wrong::Arguments),
+    ("SETNX a", Wrong::Arguments),
+    ("INCR a 1", Wrong::Arguments),
+    ("INCRBY a", Wrong::Arguments),
+    ("INCRBY a 1 1", Wrong::Arguments),
     ("CONDPUT a 1", Wrong::Arguments),
     ("CONDPUT a 1 2 3", Wrong::Arguments),
     ("MSET", Wrong::Arguments),
@@ -337,6 +346,36 @@ static WRONGS: [(&str, Wrong); 23] = [
 #[test]
 fn the_first_error_that_holds_is_told(rt: HostRuntime) {
     for (words, wrong) in &WRONGS {
+        try_words(&rt, rt.alloc(), words, refused(*wrong));
+    }
+}
+
+/// Increments that a counter doesn't have: integers of 64 bits, and what is none.
+static INCREMENTS: [(&str, Wrong); 19] = [
+    ("INCRBY a 0", Wrong::NotOne),
+    ("INCRBY a 2", Wrong::NotOne),
+    ("INCRBY a 10", Wrong::NotOne),
+    ("INCRBY a -1", Wrong::NotOne),
+    ("INCRBY a 9223372036854775807", Wrong::NotOne),
+    ("INCRBY a -9223372036854775808", Wrong::NotOne),
+    ("INCRBY a 9223372036854775808", Wrong::NotInteger),
+    ("INCRBY a -9223372036854775809", Wrong::NotInteger),
+    ("INCRBY a 18446744073709551617", Wrong::NotInteger),
+    ("INCRBY a 100000000000000000001", Wrong::NotInteger),
+    ("INCRBY a ", Wrong::NotInteger),
+    ("INCRBY a -", Wrong::NotInteger),
+    ("INCRBY a -0", Wrong::NotInteger),
+    ("INCRBY a 01", Wrong::NotInteger),
+    ("INCRBY a +1", Wrong::NotInteger),
+    ("INCRBY a 1.0", Wrong::NotInteger),
+    ("INCRBY a one", Wrong::NotInteger),
+    ("INCRBY a 1:", Wrong::NotInteger),
+    ("INCRBY a 1/", Wrong::NotInteger),
+];
+
+#[test]
+fn a_counter_grows_by_one_alone(rt: HostRuntime) {
+    for (words, wrong) in &INCREMENTS {
         try_words(&rt, rt.alloc(), words, refused(*wrong));
     }
 }
@@ -365,6 +404,8 @@ fn try_fitting(rt: &impl Abort, alloc: Global, sized: (&str, &str)) {
     sized_row(rt, alloc, "CONDPUT K V V", sized, swap);
     let put_new = asked(Command::CondPut(k, None, v));
     sized_row(rt, alloc, "CONDNEW K V", sized, put_new);
+    let incremented = asked(Command::Incr(k));
+    sized_row(rt, alloc, "INCRBY K 1", sized, incremented);
     let put_two = asked(multi(rt, &[(key(rt, "a"), v), (k, v)]));
     sized_row(rt, alloc, "MSET a V K V", sized, put_two);
     sized_row(rt, alloc, "ECHO V", sized, echo(rt, sized.1));
@@ -408,6 +449,9 @@ fn keys_and_values_have_their_sizes(rt: HostRuntime) {
     unfit(&rt, alloc, 200, 200);
     let long = repeated(&rt, alloc, "v", 129);
     sized_row(&rt, alloc, "ECHO V", ("k", &long), SIZE);
+    sized_row(&rt, alloc, "INCRBY K 2", (&long, "1"), SIZE);
+    let no_integer = refused(Wrong::NotInteger);
+    sized_row(&rt, alloc, "INCRBY K 1V", ("k", &long), no_integer);
 }
 
 /// The longest argument stands in place of `X`.
