@@ -84,6 +84,8 @@ def gather(curpd: str, journals: list[Path], until: int | None = None) -> tuple[
 
 def check_script(curp: str, script: str, played: str) -> None:
     """`curp play` writes for the script what was written behind it."""
+    if "order " not in played:
+        raise Wrong("curpd gather writes no order")
     if run([curp, "play"], script) != played:
         raise Wrong("curp play writes something else for the script than curpd gather")
 
@@ -103,6 +105,8 @@ def check_history(curp: str, script: str, recorder: Recorder) -> None:
     if unheard:
         raise Wrong(f"requests completed, and the recorder never heard of it: {unheard[:5]}")
     places = [line(**event) for event in told if event["ev"] == "place"]
+    if not places:
+        raise Wrong("no request stands in the order")
     verdict = run([curp, "check"], "\n".join([*recorder.lines(), *places, ""])).strip()
     if verdict != "yes":
         raise Wrong(f"curp check says {verdict!r} to the recorder's history with the script's order")

@@ -11,6 +11,7 @@ is given once all has come that is said of those before it.
 
 import argparse
 import contextlib
+import itertools
 import os
 import random
 import resource
@@ -32,11 +33,14 @@ OTHER_HEADER = HEADER.replace('"clients":2', '"clients":3')
 TITLE = 36  # bytes of a journal before its first gate
 FETCH = curpparcels.encode("in", {"kind": "order", "order": {"kind": "fetch"}, "stamp": 0})
 NUDGE = curpparcels.encode("in", {"kind": "order", "order": {"kind": "nudge"}, "stamp": 0})
+NO_CLIENT = curpparcels.encode("in", {"kind": "order", "order": {"kind": "expire", "client": 3}, "stamp": 0})
 PING = curpparcels.encode("in", {"kind": "bytes", "connection": 1, "bytes": b"*1\r\n$4\r\nPING\r\n".hex()})
 UNKNOWN = {"kind": "bytes", "connection": 1, "bytes": b"-ERR unknown command\r\n".hex()}
 TURNS = 100
 LIMIT = 20  # seconds for what is said of a parcel
 CLOSED, USAGE, NO_JOURNAL, DISK = 0, 2, 8, 12  # numbers with which a process ends
+LARGE = '{"clients":1,"f":5,"fast":true,"parts":16,"protocol":1,"sets":16,"ways":4}'
+ASKED = {"kind": "message", "from": "C1", "step": 1, "place": 1, "stamp": 7, "message": {"kind": "fetch", "from": "C1", "to": "G"}}
 
 
 class Wrong(Exception):
@@ -52,11 +56,11 @@ def words(options, journal, name="C1", header=HEADER):
     return [options.curpd, "node", "--name", name, "--journal", str(journal), "--header", header]
 
 
-def formatted(options, name, node="C1"):
+def formatted(options, name, node="C1", header=HEADER):
     """A new journal of a node."""
     journal = Path(options.folder) / name
     journal.unlink(missing_ok=True)
-    made = [options.curpd, "format", "--name", node, "--journal", str(journal), "--header", HEADER]
+    made = [options.curpd, "format", "--name", node, "--journal", str(journal), "--header", header]
     subprocess.run(made, check=True, timeout=20)
     return journal
 
@@ -86,9 +90,9 @@ def run(options, journal, given=b"", name="C1", header=HEADER, limit=None):
     return done.returncode, parcels_of(done.stdout)
 
 
-def items(options, journal):
+def items(options, journal, name="C1"):
     """How many items a journal has that can be opened."""
-    number, said = run(options, journal)
+    number, said = run(options, journal, name=name)
     want("a journal is opened", number, CLOSED)
     return said[0]["items"]
 
@@ -175,6 +179,23 @@ def try_damage(options):
     # Only a gate that is shut ends a journal before its end.
     want("journals that were opened", opened, 4)
     print(f"{2 * len(whole)} damaged journals: {opened} opened as a prefix, {refused} refused")
+
+
+# ---- refusals
+
+
+def try_refusals(options):
+    """Batches of up to three orders, each taken or refused: what is taken of each stands in the journal, and nothing else."""
+    journal, there = formatted(options, "refused.journal", "G"), 0
+    batches = [batch for count in (1, 2, 3) for batch in itertools.product((NUDGE, NO_CLIENT), repeat=count)]
+    for batch in batches:
+        number, said = run(options, journal, b"".join(batch), name="G")
+        want("a batch with refusals", number, CLOSED)
+        refused = [parcel["input"] for parcel in said if parcel["kind"] == "refused"]
+        want("refused inputs", refused, [place for place, order in enumerate(batch, 1) if order == NO_CLIENT])
+        there += batch.count(NUDGE)
+        want("items behind refusals", items(options, journal, "G"), there)
+    print(f"{len(batches)} batches with refusals: {there} items")
 
 
 # ---- talks
@@ -297,6 +318,55 @@ def try_full_disks(options):
     print(f"{len(rooms)} full disks: what was answered stands there, and they go on with more room")
 
 
+# ---- ends
+
+
+def want_end(what, command, number, told, **streams):
+    """A process ends with a number, and says why in a line."""
+    done = subprocess.run(command, stderr=subprocess.PIPE, timeout=60, **{"stdout": subprocess.DEVNULL, **streams})
+    want(what, (done.returncode, done.stderr.decode()), (number, f"{told}\n" if told else ""))
+
+
+def try_ends(options):
+    """The process of a node ends with each number but 6 and those of its journal."""
+    journal = formatted(options, "end.journal")
+    node, place = words(options, journal), len(FETCH)
+    ends = [
+        ("well", node, 0, "", FETCH),
+        ("an argument that is no text", [options.curpd, b"\xff"], 2, "an argument is no text", b""),
+        ("a name that is no text", [*node[:3], b"\xc3", *node[4:]], 2, "an argument is no text", b""),
+        ("no such client", words(options, journal, "C3"), 2, "the cluster has no client of that number", b""),
+        ("a cut parcel", node, 3, f"the input ends inside the parcel at byte {place}", FETCH + FETCH[:9]),
+        ("a long parcel", node, 3, f"the parcel at byte {place} is too long", FETCH + b"\xff" * 4),
+    ]
+    for what, command, number, told, given in ends:
+        want_end(what, command, number, told, input=given)
+    folder, full = os.open(options.folder, os.O_RDONLY), os.open("/dev/full", os.O_WRONLY)
+    want_end("a folder as input", node, 4, "reading failed", stdin=folder)
+    want_end("a full output", node, 5, "writing failed", stdin=subprocess.DEVNULL, stdout=full)
+    os.close(folder)
+    os.close(full)
+    print(f"{len(ends) + 2} processes of nodes end with their numbers, and say why")
+
+
+def try_gathered_ends(options):
+    """Gathering ends with each number of its own."""
+    missing = "item 1 of G took message 1 of item 1 of C1, with stamp 7, which C1's journal doesn't have"
+    # A nudge sends a message to each witness and each master, which weighs 1: the 20,834th is over the limit.
+    heavy = "what the journals' nodes sent weighs 2000064, which is more than 2000000"
+    ends = [
+        ("G", HEADER, curpparcels.encode("in", ASKED), 1, missing),
+        ("C1", HEADER, FETCH * 200_001, 7, "the journals have more than 200000 items"),
+        ("G", LARGE, NUDGE * 20_834, 9, heavy),
+    ]
+    for name, header, given, number, told in ends:
+        journal = formatted(options, "gathered.journal", name, header)
+        done = subprocess.run(words(options, journal, name, header), input=given, stdout=subprocess.DEVNULL, timeout=60)
+        want(f"the journal for {number}", done.returncode, CLOSED)
+        want_end(f"gathering that ends with {number}", [options.curpd, "gather", str(journal)], number, told)
+    print(f"{len(ends)} journals that can't be gathered")
+
+
 def main():
     parser = argparse.ArgumentParser(description=__doc__, formatter_class=argparse.RawDescriptionHelpFormatter)
     parser.add_argument("curpd")
@@ -306,7 +376,7 @@ def main():
     options = parser.parse_args()
     Path(options.folder).mkdir(parents=True, exist_ok=True)
     try:
-        for test in (try_files, try_talks, try_damage, try_full_disks, try_kills):
+        for test in (try_files, try_ends, try_gathered_ends, try_refusals, try_talks, try_damage, try_full_disks, try_kills):
             test(options)
     except Wrong as wrong:
         sys.exit(f"wrong: {wrong}")

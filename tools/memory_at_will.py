@@ -1,6 +1,6 @@
 #!/usr/bin/env python3
 """Runs each word of the programs at each value of its small options and on its largest inputs: where no memory is refused,
-each ends well; and none ends out of memory to which none was refused.
+each ends well; none ends out of memory to which none was refused; and no run on threads is made more than twice.
 
     tools/memory_at_will.py CURP CURPD FOLDER [--short]
 
@@ -21,6 +21,7 @@ import os
 import subprocess
 import sys
 import time
+from functools import partial
 from pathlib import Path
 
 sys.dont_write_bytecode = True
@@ -112,10 +113,20 @@ def made(curp, shape, steps=STEPS):
     plays(curp, script, steps)
 
 
-def live(curp, shape, commands=3):
-    """A run on threads, whose script is played to the text behind it, in which all is completed."""
+def threads_of(shape):
+    """How many threads a run starts: two for each node, of the opening and of each recovery."""
+    return 2 * (1 + shape["clients"] + (shape["parts"] + shape["recoveries"]) * (1 + 2 * shape["f"]))
+
+
+def live(curp, library, shape, commands=3):
+    """A run on threads that is made twice at most, and whose script is played to the text behind it, in which all is
+    completed."""
     shape = {**shape, "clients": min(shape["clients"], 16), "recoveries": min(shape["recoveries"], 8), "commands": commands}
-    script, gap, text = well(curp, ["live", *options(shape)]).partition(b"\n\n")
+    ended = library.run([curp, "live", *map(str, options(shape))], seconds=SECONDS)
+    want(f"live {shape}: status {ended.status}, {ended.err[-200:]!r}", ended.status == 0 and not ended.err)
+    runs = ended.counts.threads / threads_of(shape)
+    want(f"live {shape}: made {runs} times", runs in (1, 2))
+    script, gap, text = ended.out.partition(b"\n\n")
     want(f"live {shape}: no empty line", gap)
     steps = script.count(b"\n")
     want(f"live {shape}: its text isn't whole", is_played(text, steps))
@@ -248,35 +259,88 @@ def nodes(curpd, folder, shape):
     want(f"gather {shape}: {script}", script.count(b"\n") == (3 if len(journals) == 2 else 1))
 
 
-# ---- the largest inputs
+# ---- lengths
 
 
-def recovered(updates):
-    """A client that isn't fast puts the longest values under as many longest keys, one after the other; then the master is
-    recovered."""
+def recovered(commands):
+    """A client that isn't fast asks for commands, one after the other; then the master is recovered."""
     lines = [b'{"clients":1,"f":1,"fast":false,"parts":1,"protocol":1,"sets":1024,"ways":16}\n']
-    for number in range(updates):
-        put = ["put", f"{number:0{2 * KEY}x}", f"{number:0{2 * VALUE}x}"]
-        lines.append(line_of({"client": 1, "cmd": put, "do": "invoke"}))
+    for number, command in enumerate(commands):
+        lines.append(line_of({"client": 1, "cmd": command, "do": "invoke"}))
         lines += [b'{"do":"deliver","msg":%d}\n' % (4 * number + place) for place in (1, 2, 3, 4)]
     lines.append(b'{"backup":1,"do":"recover","part":1,"witness":1}\n')
-    lines += [b'{"do":"deliver","msg":%d}\n' % (4 * updates + place) for place in (1, 3, 4, 5, 6, 7, 8, 9, 10, 11)]
+    lines += [b'{"do":"deliver","msg":%d}\n' % (4 * len(commands) + place) for place in (1, 3, 4, 5, 6, 7, 8, 9, 10, 11)]
     return b"".join(lines), len(lines) - 1
 
 
-def largest_recovery(curp):
-    script, steps = recovered(36_000)
+def plays_recovered(curp, commands):
+    script, steps = recovered(commands)
     text = well(curp, ["play"], script)
-    want("the largest recovery", is_played(text, steps) and b" adopted " in text and b" refused " not in text)
+    want("the recovery isn't whole", is_played(text, steps) and b" adopted " in text and b" refused " not in text)
+    want("not all is completed", text.count(b"\nc 1.") == len(commands) > 0)
+    return script, steps
 
 
-def largest(curp, curpd, folder):
+# A key of each length with the longest value, and a value of each length under the longest key.
+LENGTHS = [(key, VALUE) for key in range(1, KEY + 1)] + [(KEY, value) for value in range(VALUE + 1)]
+
+
+def commands_of(key, value):
+    """Each command, on a key and with a value of so many bytes."""
+    key, value = "6b" * key, "76" * value
+    with_value = [["put", key, value], ["condput", key, value, value], ["multi", key, value], ["append", key, ""]]
+    return [*with_value, ["get", key], ["delete", key], ["append", key, value], ["incr", key]]
+
+
+def plays_lengths(curp):
+    script, steps = plays_recovered(curp, [command for lengths in LENGTHS for command in commands_of(*lengths)])
+    plays(curp, script, steps)
+
+
+def resp_of_lengths(curp):
+    """A put and a get of each length, and their replies."""
+    requests, replies = b"", b""
+    for key, value in LENGTHS:
+        key, value = b"k" * key, b"v" * value
+        requests += b"*3\r\n$3\r\nSET\r\n$%d\r\n%s\r\n$%d\r\n%s\r\n" % (len(key), key, len(value), value)
+        requests += b"*2\r\n$3\r\nGET\r\n$%d\r\n%s\r\n" % (len(key), key)
+        replies += b"+OK\r\n$%d\r\n%s\r\n" % (len(value), value)
+    want("other replies to each length", well(curp, ["resp", "--f", "2", "--every", "9"], requests) == replies)
+
+
+def nodes_of_lengths(curpd, folder):
+    """A client for each length takes its commands, of which it has eight pending at most, and asks the master for each."""
+    folder.mkdir(exist_ok=True)
+    shape = {"f": 1, "parts": 1, "ways": 1, "protocol": 1, "clients": 1, "sets": 16}
+    for lengths in LENGTHS:
+        given = b"".join(order("invoke", command=kept(command)) for command in commands_of(*lengths))
+        node(curpd, folder, shape, "C1", given, {"stands": 1, "sent": 8})
+
+
+def kept(command):
+    """A command of a line, as it stands in a parcel."""
+    kind, key, *values = command
+    if kind == "multi":
+        return {"kind": kind, "pairs": [{"key": key, "value": values[0]}]}
+    fields = {"put": ["value"], "append": ["value"], "condput": ["expected", "value"]}.get(kind, [])
+    return {"kind": kind, "key": key} | dict(zip(fields, values))
+
+
+# ---- the largest inputs
+
+
+def largest_recovery(curp):
+    puts = [["put", f"{number:0{2 * KEY}x}", f"{number:0{2 * VALUE}x}"] for number in range(36_000)]
+    plays_recovered(curp, puts)
+
+
+def largest(curp, curpd, folder, library):
     """Each word on its largest inputs."""
     shape = {"f": 5, "parts": 16, "ways": 16, "protocol": 2, "clients": 64, "sets": 1024, "recoveries": 64}
     yield "made scripts", lambda: made(curp, shape, 200_000)
     yield "made scripts of few nodes", lambda: made(curp, {"f": 1, "parts": 1, "clients": 1}, 200_000)
     yield "a recovery", lambda: largest_recovery(curp)
-    yield "a run on threads", lambda: live(curp, shape, 100)
+    yield "a run on threads", lambda: live(curp, library, shape, 100)
     yield "requests", lambda: resp(curp, 1, 1000, 12_000)
     yield "requests with five backups", lambda: resp(curp, 5, 0, 4_000)
     yield "orders", lambda: manage(curp, shape, 6)
@@ -360,12 +424,15 @@ def main():
     try:
         all_at_once("made scripts", [lambda it=it: made(curp, it) for it in shapes])
         of_threads = small if given.short else [it for it in shapes if it["ways"] % 5 == 1]
-        all_at_once("runs on threads", [lambda it=it: live(curp, it) for it in of_threads], 1 + os.cpu_count() // 2)
+        all_at_once("runs on threads", [lambda it=it: live(curp, library, it) for it in of_threads], 1 + os.cpu_count() // 2)
         all_at_once("requests", [lambda f=f, e=e: resp(curp, f, e) for f in range(1, 6) for e in range(10)])
         all_at_once("orders", [lambda it=it: manage(curp, it) for it in small])
         all_at_once("histories", [lambda n=n: check(curp, n) for n in (*range(1, 40), 128, 1000)])
         all_at_once("nodes", [lambda it=it: nodes(curpd, folder, it) for it in small])
-        for name, run in [] if given.short else largest(curp, curpd, folder):
+        lengths = folder / "lengths"
+        of_lengths = [partial(plays_lengths, curp), partial(resp_of_lengths, curp), partial(nodes_of_lengths, curpd, lengths)]
+        all_at_once("each length of keys and values", of_lengths)
+        for name, run in [] if given.short else largest(curp, curpd, folder, library):
             all_at_once(f"the largest: {name}", [run])
         for command, text in refused_runs(curp, curpd, folder):
             ended = refuse(library, command, text)

@@ -81,8 +81,10 @@ def look_at(name, curp, words, script, library):
             faults.append((call, ended.status, ended.err))
         if is_whole and call > 2 * last + 64:
             break
-    told = ", ".join(f"{status}: {count}" for status, count in sorted(statuses.items()))
-    return told_of(name, call, refused, told, faults)
+    came = ", ".join(f"{status}: {count}" for status, count in sorted(statuses.items()))
+    if status != (2 if told else 0) or not whole + told:
+        faults.append((0, status, told))
+    return told_of(name, call, refused, came, faults)
 
 
 def told_of(name, calls, refused, told, faults):
@@ -90,7 +92,7 @@ def told_of(name, calls, refused, told, faults):
     print(f"{name}: {calls} calls, {refused} runs ended by it; {told}", flush=True)
     for call, ended, err in faults[:10]:
         print(f"  call {call}: status {ended}, {err!r}")
-    return None if faults else f"| {name} | {calls:,} | {refused:,} | {calls - refused:,} |"
+    return None if faults or not refused else f"| {name} | {calls:,} | {refused:,} | {calls - refused:,} |"
 
 
 def is_front_of_run(curp, out, is_whole):

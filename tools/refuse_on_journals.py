@@ -183,12 +183,13 @@ def nodes_of(curpd, folder):
 
 
 def batches_of(journal):
-    """The batches of a journal, without their checksums, and where its last gate stands."""
+    """The batches of a journal, without their checksums, and where its last commit byte stands."""
     found, place = [], TITLE
-    while journal[place] == 1:
+    while journal[place : place + 1] == b"\1":
         behind = place + 5 + int.from_bytes(journal[place + 1 : place + 5], "big")
         found.append(journal[place + 5 : behind - 8])
         place = behind
+    want("a journal doesn't end with a commit byte that is shut", journal[place:] == b"\0")
     return found, place
 
 
@@ -395,4 +396,7 @@ def main():
 
 
 if __name__ == "__main__":
-    main()
+    try:
+        main()
+    except Wrong as wrong:
+        sys.exit(f"wrong: {wrong}")

@@ -1,6 +1,8 @@
-ghost use Rattle.std.specs.Prelude.{◌≡◌, true, [], length, IfOk};
-ghost use Rattle.curp_io.specs.Memory.{fresh_calls};
+ghost use Rattle.std.specs.Prelude.{◌≡◌, ◌≢◌, ◌≤◌, ◌↔◌, true, [], length, IfOk};
+ghost use Rattle.curp_io.specs.Streams.{Rose, SameCount};
+ghost use Rattle.curp_io.specs.Memory.{called, fails, fresh_calls};
 ghost use Rattle.curp_disk.specs.Calls.{seen_of, LeftNow, LeftSince};
+ghost use Rattle.curp_disk.specs.Disk.{Elapses, GivesBytes, HasLength, IsWithin, Narrows};
 ghost use Rattle.curp_disk.specs.InMemory.{MemoryRan, crashed};
 ghost use Rattle.curp_disk.specs.Moments.{reads_now, counts_now, only_now};
 ghost use Rattle.curp_disk.specs.declared.medium.Call.TheVariants.{Write, Sync};
@@ -84,14 +86,41 @@ impl Disk for MemoryDisk {
 
     ghost only_now = { λ d. only_now d.played };
 
-    fn read(&mut self, at: u64, buf: &mut [u8]) -> Did {
+    fn read(&mut self, at: u64, buf: &mut [u8]) -> Did
+        ensures within { IsWithin result (length buf.new) }
+        ensures bytes { true ≡ true → GivesBytes (seen_of self.old.played) at result buf.new }
+        ensures seen { seen_of self.new.played ≡ seen_of self.old.played }
+        ensures crash { Narrows (LeftNow self.old.played) (LeftNow self.new.played) }
+        ensures time { Elapses (length self.old.played.calls) (length self.new.played.calls)
+            (LeftSince self.old.played) (LeftSince self.new.played) (LeftNow self.new.played) }
+        ensures sound { self.old.calls.failing ≡ [] → (result ≢ Did.Failed) × (self.new.calls.failing ≡ []) }
+        ensures cause { result ≡ Did.Failed → Rose self.old.calls.faults self.new.calls.faults }
+        ensures told { result ≢ Did.Failed → SameCount self.old.calls.faults self.new.calls.faults }
+        ensures never_falls { self.old.calls.faults ≤ self.new.calls.faults }
+        ensures played { self.new.played ≡ self.old.played }
+        ensures fails { (result ≡ Did.Failed) ↔ (fails self.old.calls ≡ true) }
+        ensures calls { self.new.calls ≡ called self.old.calls }
+    {
         match self.schedule.turn() {
             Turn::Fails => Did::Failed,
             Turn::Goes => Did::Done(self.medium.read(at, buf)),
         }
     }
 
-    fn length(&mut self) -> Long {
+    fn length(&mut self) -> Long
+        ensures bytes { true ≡ true → HasLength (seen_of self.old.played) result }
+        ensures seen { seen_of self.new.played ≡ seen_of self.old.played }
+        ensures crash { Narrows (LeftNow self.old.played) (LeftNow self.new.played) }
+        ensures time { Elapses (length self.old.played.calls) (length self.new.played.calls)
+            (LeftSince self.old.played) (LeftSince self.new.played) (LeftNow self.new.played) }
+        ensures sound { self.old.calls.failing ≡ [] → (result ≢ Long.Failed) × (self.new.calls.failing ≡ []) }
+        ensures cause { result ≡ Long.Failed → Rose self.old.calls.faults self.new.calls.faults }
+        ensures told { result ≢ Long.Failed → SameCount self.old.calls.faults self.new.calls.faults }
+        ensures never_falls { self.old.calls.faults ≤ self.new.calls.faults }
+        ensures played { self.new.played ≡ self.old.played }
+        ensures fails { (result ≡ Long.Failed) ↔ (fails self.old.calls ≡ true) }
+        ensures calls { self.new.calls ≡ called self.old.calls }
+    {
         match self.schedule.turn() {
             Turn::Fails => Long::Failed,
             Turn::Goes => Long::Bytes(self.medium.length()),

@@ -1,5 +1,5 @@
 //! Tests of scripts, sessions and orders for a manager, over streams in memory whose calls fail in turn, or that give a
-//! byte at a time.
+//! byte at a time; and talks, in which what is said is passed on before more is read.
 #![tactic(auto)]
 
 #[cfg(test)]
@@ -10,3 +10,5 @@ mod scripts;
 mod sessions;
 #[cfg(test)]
 mod streams;
+#[cfg(test)]
+mod talks;
