@@ -48,10 +48,12 @@ impl From<AllocError> for CollectError {
 }
 
 /// Why files are no script.
-#[derive(Drop)]
+#[derive(Debug, Drop, Error)]
 pub enum ScriptError {
+    #[error("{0}")]
     Collect(CollectError),
     /// The journals don't fit one another, or are beyond a script's limits.
+    #[error("{0}")]
     Gather(GatherError),
 }
 

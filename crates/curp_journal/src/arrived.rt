@@ -7,7 +7,7 @@ use curp_msg::{Input, Local, Message};
 use std::alloc::Global;
 
 /// A message with the place where its sender's journal holds it.
-#[derive(Drop)]
+#[derive(Debug, Drop)]
 pub struct Named {
     pub from: NodeId,
     /// The number of the sender's item, counted from 1.

@@ -4,5 +4,5 @@
 //! (`known_step`, `along`).
 //!
 //! This is a part of the proof of the laws of `curp_law_runs` and `curp_law_linear`, and has no law of its own: what is
-//! proved here is cited by its module, in `curp_law_pairs`, `curp_law_routes` and `curp_law_runs`.
+//! proved here is cited by its module, in `curp_law_runs`.
 #![tactic(auto)]

@@ -3,7 +3,7 @@ use Rattle.std.proofs.Common.{◌≡◌, ◌⊎◌, inl, inr, ℕ, zero, suc, �
 use Rattle.std.specs.List.{AllByRecursion, IsDistinct, filter, list_all}
 use Rattle.std.specs.List.Sorted.{IsPermutation}
 use Rattle.std.proofs.lemmas.Bool.{cases_Bool, or_left, or_right, or_from, and_left, and_right, eq-eqb}
-use Rattle.std.proofs.lemmas.List.Sorted.{Contains-permutation, IsPermutation-sym, IsPermutation-to_prefix, IsPermutation-trans}
+use Rattle.std.proofs.lemmas.List.Sorted.{Contains-permutation, IsPermutation-sym, IsPermutation-to_front, IsPermutation-trans}
 use Rattle.std.proofs.lemmas.List.Folds.{list_any-append}
 use Rattle.std.proofs.lemmas.Map.Keys.{IsDistinct-IsPermutation, IsDistinct-head, IsDistinct-tail, IsDistinct-cons}
 use Rattle.std.proofs.lemmas.Option.{slice_get-get_or, get_or_from_slice_get}
@@ -322,5 +322,5 @@ module _ {E : Type 0} (wait : Wait E) where
 
   pub all_count : (ok : Hears) (missing : Message) (others : List Message) → IsPermutation words (missing ∷ others) → CompletesNothing t.client.number (wait.waiting [] []) others
   all_count ok missing others p =
-      let last : IsPermutation (missing ∷ others) (others ++ missing ∷ []) = IsPermutation-sym (others ++ missing ∷ []) (missing ∷ others) (IsPermutation-to_prefix others missing) in
+      let last : IsPermutation (missing ∷ others) (others ++ missing ∷ []) = IsPermutation-sym (others ++ missing ∷ []) (missing ∷ others) (IsPermutation-to_front others missing) in
       before_last others missing (wait.waiting [] []) (completes ok (others ++ missing ∷ []) (IsPermutation-trans words (missing ∷ others) (others ++ missing ∷ []) p last))

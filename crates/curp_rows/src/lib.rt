@@ -3,7 +3,7 @@
 //!
 //! The examples are from outside: 36 scripts, of updates, conflicts, reads, recoveries, replacements, migrations and
 //! refused steps. They stand in `examples`, each with its output, and `examples/to_specs.py` makes the specs of this
-//! crate of them. A clause for each says that the definitions of `curp_model` and `curp_text` give the script exactly
+//! crate of them. A clause for each says that the definitions of `curp_model` and `curp_report` give the script exactly
 //! the output. Of a longer script, which fills a world with messages, the first 576 of 914 steps are one more; its
 //! steps and its text are written as functions over numbers. Scripts whose lines the grammar refuses are cases
 //! alone (`cases/examples`).

@@ -7,7 +7,7 @@ use curp_desk::Desk;
 use curp_journal::{Arrived, Item, Named};
 use curp_msg::{Body, Local, Message};
 use curp_ruled::{Parcel, Post, Take, inbox};
-use curp_seat::{Chores, OpenGate, Took};
+use curp_seat::{Chores, Took, Unobserved};
 use std::alloc::{AllocError, Global};
 use std::sync::Wait;
 use std::test::Fail;
@@ -94,7 +94,7 @@ fn made(desk: Desk<Relay>, expected: &[bool]) -> bool {
 fn what_is_due_is_made_before_what_waits(rt: HostRuntime) -> Result<(), Fail> {
     let take = filled_inbox(&rt, rt.alloc())?;
     let desk = Desk::new(rt.alloc(), 0, begun(rt.alloc(), 1, 1, 1));
-    desk.work(&rt, &OpenGate, take, TwoBehind { due: 1 }, &Board::new());
+    desk.work(&rt, &Unobserved, take, TwoBehind { due: 1 }, &Board::new());
     assert!(rt; made(desk, &[false, true, false, false, true, false, false]));
     Ok(())
 }

@@ -4,7 +4,7 @@ use curp_base::NoMemory;
 use curp_cmd::NodeId;
 use curp_desk::{Carry, Desk, Drive, Member, Posts, Work, run_crew};
 use curp_ruled::Take;
-use curp_seat::OpenGate;
+use curp_seat::Unobserved;
 use std::alloc::Global;
 use std::sync::Wait;
 use std::test::Fail;
@@ -20,7 +20,8 @@ struct Worker<'a> {
 
 impl<'a> Work for Worker<'a> {
     fn work<R: Wait>(self, rt: &R, take: Take) {
-        self.desk.work(rt, &OpenGate, take, self.chores, self.board);
+        self.desk
+            .work(rt, &Unobserved, take, self.chores, self.board);
     }
 }
 

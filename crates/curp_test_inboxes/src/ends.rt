@@ -8,7 +8,7 @@ use curp_desk::{Desk, Posts};
 use curp_journal::Arrived;
 use curp_msg::Local;
 use curp_ruled::{Parcel, Post, Take, inbox};
-use curp_seat::OpenGate;
+use curp_seat::Unobserved;
 use std::alloc::{AllocError, Global};
 use std::sync::Wait;
 use std::test::Fail;
@@ -55,7 +55,7 @@ fn work<R: Wait>(rt: &R, desk: &Desk<Relay>, take: Take) {
         begins: 0,
         often: 0,
     };
-    desk.work(rt, &OpenGate, take, chores, &Board::new());
+    desk.work(rt, &Unobserved, take, chores, &Board::new());
 }
 
 // The post of the relay at the inbox to which it sends.

@@ -25,16 +25,20 @@ impl From<NoMemory> for EncodeError {
 }
 
 /// Why bytes begin with no frame. The first that holds is told.
-#[derive(Clone, Copy, Debug, PartialEq, Eq)]
+#[derive(Clone, Copy, Debug, PartialEq, Eq, Error)]
 pub enum FrameError {
     /// The frame, as far as its length is there, has this many bytes, and more than these.
+    #[error("the frame has {need} bytes, and not all are there")]
     Short { need: u64 },
     /// No body has the tag that stands there.
+    #[error("no message has this tag")]
     BadTag,
     /// A number, a node, a count, a key or a value doesn't end within the frame or may not stand there, or a byte is left
     /// over: this is the place of its first byte. The place 0 is that of the frame's length.
+    #[error("byte {place} of the frame is wrong")]
     BadField { place: u64 },
     /// There was no memory for the message.
+    #[error("out of memory")]
     NoMemory,
 }
 
