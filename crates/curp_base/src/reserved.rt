@@ -37,10 +37,11 @@ impl<T> Reserved<T> {
         }
     }
 
-    /// No items, and room for so many.
+    /// No items, and room for just so many.
     pub fn with_room(alloc: Global, spare: u64) -> Result<Reserved<T>, NoMemory>
         ensures items { IfOk result (λ list. list.items ≡ []) }
         ensures room { IfOk result (λ list. spare ≤ list.spare) }
+        ensures no_more { IfOk result (λ list. list.spare ≤ spare) }
     {
         let items = Vec::with_capacity(alloc, spare as usize)?;
         Ok(Reserved { items })

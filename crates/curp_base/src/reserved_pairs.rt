@@ -40,10 +40,11 @@ impl<K: Ord, V> ReservedPairs<K, V> {
         }
     }
 
-    /// No pairs, and room for so many.
+    /// No pairs, and room for just so many.
     pub fn with_room(alloc: Global, spare: u64) -> Result<ReservedPairs<K, V>, NoMemory>
         ensures items { IfOk result (λ pairs. pairs.items ≡ []) }
         ensures room { IfOk result (λ pairs. spare ≤ pairs.spare) }
+        ensures no_more { IfOk result (λ pairs. pairs.spare ≤ spare) }
     {
         let pairs = Reserved::with_room(alloc, spare)?;
         Ok(ReservedPairs { pairs })
