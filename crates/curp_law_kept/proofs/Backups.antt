@@ -23,15 +23,15 @@ use Rattle.curp_model.specs.World.{World}
 use Rattle.curp_facts.specs.Facts.{FenceReplyOk, HasLog, IsAmong, IsGiven, Lists, Logged, WasSent}
 use Rattle.curp_facts.specs.Nodes.{BackupOk}
 use Rattle.curp_facts.specs.Said.{AppendHolds, AppendSaid, IsOrderedTo, Says}
-use Rattle.curp_law_growth.specs.Deeds.{IsFor}
-use Rattle.curp_law_keepers.specs.BackupEffect.{AppendAnswerSays, AppendedSays, BackupAnswers, BackupMove, BackupSays, ByAppend, ByFence, ByInstall, Extends, FenceAnswerSays, FenceReplySays, Rests}
-use Rattle.curp_law_keepers.specs.Brought.{Brings}
-use Rattle.curp_law_keepers.proofs.Brought.{brought_sent}
+use Rattle.curp_law_kept.specs.Deeds.{IsFor}
+use Rattle.curp_law_kept.specs.BackupEffect.{AppendAnswerSays, AppendedSays, BackupAnswers, BackupMove, BackupSays, ByAppend, ByFence, ByInstall, Extends, FenceAnswerSays, FenceReplySays, Rests}
+use Rattle.curp_law_kept.specs.Brought.{Brings}
+use Rattle.curp_law_kept.proofs.Brought.{brought_sent}
 use Rattle.curp_facts.specs.Known.{Known}
 use Rattle.curp_law_kept.proofs.Known.{from_manager, said}
 use Rattle.curp_facts.specs.Names.{InstallOk, RecoverOrderOk}
-use Rattle.curp_law_stays.proofs.Nodes.{backup_ok_later}
-use Rattle.curp_law_stays.proofs.Words.{Follows, given_later, log_later, sent_later}
+use Rattle.curp_law_kept.proofs.Nodes.{backup_ok_later}
+use Rattle.curp_law_kept.proofs.Words.{Follows, given_later, log_later, sent_later}
 
 module _ {w v : World} (known : Known w) (s : Follows w v) (n : ℕ) (given : Input) (for : IsFor w (backup_node n) given) (b c : BackupState)
     (was : IsBackup w (backup_node n) b) (is : IsBackup v (backup_node n) c) where

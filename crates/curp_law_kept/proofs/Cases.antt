@@ -26,8 +26,8 @@ use Rattle.curp_model.specs.World.{World, delivery, deed_of, effect, events_of, 
 use Rattle.curp_facts.specs.Facts.{WasSent}
 use Rattle.curp_msg.specs.Script.{IsStep}
 use Rattle.curp_cmd.specs.Store.{NamesKey}
-use Rattle.curp_law_growth.specs.Deeds.{IsFor}
-use Rattle.curp_law_growth.proofs.Deeds.{done_taken}
+use Rattle.curp_law_kept.specs.Deeds.{IsFor}
+use Rattle.curp_law_kept.proofs.Deeds.{done_taken}
 use Rattle.curp_base.proofs.Numbered.{place}
 use Rattle.curp_facts.specs.Known.{Known}
 use Rattle.curp_law_kept.proofs.Known.{fits}

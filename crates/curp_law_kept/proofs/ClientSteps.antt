@@ -15,16 +15,16 @@ use Rattle.curp_facts.specs.Facts.{IsAdoptedNow}
 use Rattle.curp_facts.specs.Growth.{Grows}
 use Rattle.curp_facts.specs.Invariant.{Invariant, PresentOk}
 use Rattle.curp_facts.specs.Nodes.{ClientOk}
-use Rattle.curp_law_growth.specs.Deeds.{IsFor}
-use Rattle.curp_law_keepers.specs.ClientEffect.{events_after}
+use Rattle.curp_law_kept.specs.Deeds.{IsFor}
+use Rattle.curp_law_kept.specs.ClientEffect.{events_after}
 use Rattle.curp_law_kept.proofs.Clients.{client_keeps, client_messages, client_said, completed_keeps, history_keeps, other_client_keeps, reads_keep}
 use Rattle.curp_facts.specs.Known.{Known}
 use Rattle.curp_law_kept.proofs.Moved.{messages_say}
 use Rattle.curp_law_kept.proofs.Others.{SaysMore, backups_stay, masters_stay, nothing_ready, started_stay, witnesses_stay}
-use Rattle.curp_law_names.proofs.Later.{Later}
-use Rattle.curp_law_stays.proofs.Entries.{ordered_later}
-use Rattle.curp_law_stays.proofs.Said.{entry_was_later, says_later}
-use Rattle.curp_law_stays.proofs.Words.{Follows, one_state, ready_later, sent_later}
+use Rattle.curp_law_kept.proofs.Later.{Later}
+use Rattle.curp_law_kept.proofs.Entries.{ordered_later}
+use Rattle.curp_law_kept.proofs.Said.{entry_was_later, says_later}
+use Rattle.curp_law_kept.proofs.Words.{Follows, one_state, ready_later, sent_later}
 
 -- the world after an input to client n that isn't refused
 pub record ClientMoved (w v : World) (n : ℕ) (given : Input) (c : ClientState) : Type 0 where

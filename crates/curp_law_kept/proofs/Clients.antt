@@ -26,16 +26,16 @@ use Rattle.curp_facts.specs.ClientNumbers.{CompletedBelow, IsAsked, ClientNumber
 use Rattle.curp_facts.specs.Facts.{EntryWas, WasSent, lists_of_part}
 use Rattle.curp_facts.specs.Nodes.{ClientOk, CompletedBy, MayCome, ValueWasSent, WasRead, WasSeen}
 use Rattle.curp_facts.specs.Said.{AskSaid, RejectedSaid, Says, WorthSaid}
-use Rattle.curp_law_growth.specs.Deeds.{IsFor}
-use Rattle.curp_law_keepers.specs.ClientEffect.{ByValue, ClientAsks, ClientEffect, ClientSays, CompletionOk, InputSuitsClient, MayComplete, SuitsClient, events_after, ByQuick}
-use Rattle.curp_law_keepers.proofs.ClientLater.{others_stay}
-use Rattle.curp_law_keepers.proofs.Clients.{client_effect}
-use Rattle.curp_law_keepers.proofs.Numbers.{waiting}
+use Rattle.curp_law_kept.specs.Deeds.{IsFor}
+use Rattle.curp_law_kept.specs.ClientEffect.{ByValue, ClientAsks, ClientEffect, ClientSays, CompletionOk, InputSuitsClient, MayComplete, SuitsClient, events_after, ByQuick}
+use Rattle.curp_law_kept.proofs.ClientLater.{others_stay}
+use Rattle.curp_law_kept.proofs.ClientEffects.{client_effect}
+use Rattle.curp_law_kept.proofs.Numbers.{waiting}
 use Rattle.curp_law_kept.proofs.Completes.{by_accepts, by_synced}
 use Rattle.curp_facts.specs.Known.{Known}
 use Rattle.curp_law_kept.proofs.Known.{knows_later, said}
-use Rattle.curp_law_stays.proofs.Nodes.{completed_by_later, read_later}
-use Rattle.curp_law_stays.proofs.Words.{Follows, event_at}
+use Rattle.curp_law_kept.proofs.Nodes.{completed_by_later, read_later}
+use Rattle.curp_law_kept.proofs.Words.{Follows, event_at}
 use Rattle.curp_facts.specs.Reach.{QuickSaid}
 
 -- an id is invoked with one command

@@ -11,7 +11,7 @@ use Rattle.curp_model.specs.World.{World}
 use Rattle.curp_facts.specs.Facts.{Completable, EntryWas, WasSent, lists_of_part}
 use Rattle.curp_facts.specs.Nodes.{MayCome}
 use Rattle.curp_facts.specs.Said.{ReplySaid}
-use Rattle.curp_law_keepers.specs.ClientEffect.{BySynced, ByAccepts}
+use Rattle.curp_law_kept.specs.ClientEffect.{BySynced, ByAccepts}
 use Rattle.curp_facts.specs.Known.{Known}
 use Rattle.curp_law_kept.proofs.Known.{said}
 

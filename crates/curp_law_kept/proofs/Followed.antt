@@ -19,13 +19,13 @@ use Rattle.curp_model.specs.Witness.{witness_input}
 use Rattle.curp_model.specs.World.{World, kept, messages, step, with_master}
 use Rattle.curp_facts.specs.Growth.{Grows}
 use Rattle.curp_msg.specs.Script.{IsStep}
-use Rattle.curp_law_growth.specs.Deeds.{IsFor}
+use Rattle.curp_law_kept.specs.Deeds.{IsFor}
 use Rattle.curp_base.proofs.Numbered.{numbered_set_same}
-use Rattle.curp_law_growth.proofs.Worlds.{step_grows}
-use Rattle.curp_law_keepers.specs.BackupEffect.{BackupSays}
-use Rattle.curp_law_keepers.specs.WitnessEffect.{WitnessSays}
-use Rattle.curp_law_keepers.proofs.Backups.{backup_effect}
-use Rattle.curp_law_keepers.proofs.Witnesses.{witness_effect}
+use Rattle.curp_law_kept.proofs.WorldsGrow.{step_grows}
+use Rattle.curp_law_kept.specs.BackupEffect.{BackupSays}
+use Rattle.curp_law_kept.specs.WitnessEffect.{WitnessSays}
+use Rattle.curp_law_kept.proofs.BackupEffects.{backup_effect}
+use Rattle.curp_law_kept.proofs.WitnessEffects.{witness_effect}
 use Rattle.curp_law_kept.proofs.Cases.{ByBackup, ByClient, ByManager, ByMaster, ByWitness, Rests, StepCase, Stays, step_case}
 use Rattle.curp_law_kept.proofs.Clients.{client_messages}
 use Rattle.curp_facts.specs.Known.{Known}
@@ -38,10 +38,10 @@ use Rattle.curp_law_kept.proofs.Others.{SaysMore, nothing_ready}
 use Rattle.curp_law_kept.proofs.Steps.{known_step}
 use Rattle.curp_law_kept.proofs.Worlds.{other_item, same_history}
 use Rattle.curp_facts.specs.Names.{Names}
-use Rattle.curp_law_names.proofs.Later.{Later}
-use Rattle.curp_law_names.proofs.Runs.{step_goes}
-use Rattle.curp_law_names.proofs.Steps.{moved_messages}
-use Rattle.curp_law_stays.proofs.Words.{Follows}
+use Rattle.curp_law_kept.proofs.Later.{Later}
+use Rattle.curp_law_kept.proofs.Runs.{step_goes}
+use Rattle.curp_law_kept.proofs.ManagerWorlds.{moved_messages}
+use Rattle.curp_law_kept.proofs.Words.{Follows}
 use Rattle.curp_model.proofs.Batches.{all_of-kept}
 
 apart : {node : NodeId} → (kind.Manager ≡ node.kind → ⊥) → manager_node ≢ node

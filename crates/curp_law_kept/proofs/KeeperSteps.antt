@@ -17,19 +17,19 @@ use Rattle.curp_facts.specs.Facts.{IsAmong, IsGiven, Lists}
 use Rattle.curp_facts.specs.Growth.{Grows}
 use Rattle.curp_facts.specs.Invariant.{Invariant}
 use Rattle.curp_facts.specs.Nodes.{BackupOk, StartedAt, WitnessOk}
-use Rattle.curp_law_growth.specs.Deeds.{IsFor}
-use Rattle.curp_law_keepers.specs.BackupEffect.{BackupEffect, BackupSays}
-use Rattle.curp_law_keepers.specs.WitnessEffect.{WitnessEffect, WitnessSays}
-use Rattle.curp_law_keepers.proofs.Backups.{backup_effect}
-use Rattle.curp_law_keepers.proofs.Witnesses.{witness_effect}
+use Rattle.curp_law_kept.specs.Deeds.{IsFor}
+use Rattle.curp_law_kept.specs.BackupEffect.{BackupEffect, BackupSays}
+use Rattle.curp_law_kept.specs.WitnessEffect.{WitnessEffect, WitnessSays}
+use Rattle.curp_law_kept.proofs.BackupEffects.{backup_effect}
+use Rattle.curp_law_kept.proofs.WitnessEffects.{witness_effect}
 use Rattle.curp_law_kept.proofs.Backups.{backup_keeps, backup_says}
 use Rattle.curp_facts.specs.Known.{Known}
 use Rattle.curp_law_kept.proofs.Known.{Frame, all_say, clients_stay, completed_stays, history_stays, moving_stays, present_stays, reads_stay}
 use Rattle.curp_law_kept.proofs.Others.{SaysMore, backups_stay, masters_stay, nothing_ready, same_given, started_stay, witnesses_stay}
 use Rattle.curp_law_kept.proofs.Witnesses.{started_keeps, witness_keeps, witness_says}
-use Rattle.curp_law_names.proofs.Later.{Later}
-use Rattle.curp_law_stays.proofs.Nodes.{backup_ok_later, witness_ok_later}
-use Rattle.curp_law_stays.proofs.Words.{Follows, one_state}
+use Rattle.curp_law_kept.proofs.Later.{Later}
+use Rattle.curp_law_kept.proofs.Nodes.{backup_ok_later, witness_ok_later}
+use Rattle.curp_law_kept.proofs.Words.{Follows, one_state}
 
 -- the world after one node that is neither a master nor the manager has said more, and no client has moved
 pub record KeeperMoved (w v : World) (mover : NodeId) (out : List Message) : Type 0 where

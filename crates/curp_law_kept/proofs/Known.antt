@@ -29,12 +29,12 @@ use Rattle.curp_facts.specs.Nodes.{ClientOk, CompletedBy, MayCome, WasRead}
 use Rattle.curp_facts.specs.Said.{Says}
 use Rattle.curp_facts.specs.Names.{IsOf}
 use Rattle.curp_facts.specs.Fits.{MessageFits, sender_kind}
-use Rattle.curp_law_keepers.proofs.ClientLater.{knowledge_grows}
+use Rattle.curp_law_kept.proofs.ClientLater.{knowledge_grows}
 use Rattle.curp_law_kept.proofs.Moved.{given_back, messages_say}
-use Rattle.curp_law_stays.proofs.Entries.{ordered_later}
-use Rattle.curp_law_stays.proofs.Nodes.{completed_by_later, read_later}
-use Rattle.curp_law_stays.proofs.Said.{entry_was_later, says_later}
-use Rattle.curp_law_stays.proofs.Words.{Follows, ready_later, sent_later}
+use Rattle.curp_law_kept.proofs.Entries.{ordered_later}
+use Rattle.curp_law_kept.proofs.Nodes.{completed_by_later, read_later}
+use Rattle.curp_law_kept.proofs.Said.{entry_was_later, says_later}
+use Rattle.curp_law_kept.proofs.Words.{Follows, ready_later, sent_later}
 
 module _ {w : World} (known : Known w) where
   -- a message that was sent fits

@@ -27,10 +27,10 @@ use Rattle.curp_facts.specs.Known.{Known}
 use Rattle.curp_law_kept.proofs.Known.{said}
 use Rattle.curp_law_kept.proofs.ManagersSay.{again_does, entries_keep, entry_keeps, moving_keeps, recover_words, refused, replace_words, stays}
 use Rattle.curp_facts.specs.Names.{Agree, IsOf, RecoveringOk, ReplacingOk}
-use Rattle.curp_law_names.proofs.Keeps.{entry_now, entry_numbered, numbered_now}
+use Rattle.curp_law_kept.proofs.Keeps.{entry_now, entry_numbered, numbered_now}
 use Rattle.curp_base.proofs.Numbered.{place as place_of}
-use Rattle.curp_law_names.proofs.Lists.{among_set, each_among, filter_among, first_among, there_among}
-use Rattle.curp_law_names.proofs.Named.{named, row, row_each}
+use Rattle.curp_law_kept.proofs.NumberedLists.{among_set, each_among, filter_among, first_among, there_among}
+use Rattle.curp_law_kept.proofs.Named.{named, row, row_each}
 use Rattle.curp_base.proofs.Lists.{at_mapped}
 
 module _ {w : World} (known : Known w) where

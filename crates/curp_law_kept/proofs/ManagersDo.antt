@@ -21,13 +21,13 @@ use Rattle.curp_model.specs.Manager.{ManagerState, Migration, Move, given_in, gi
 use Rattle.curp_model.specs.Ranges.{Range, range_of}
 use Rattle.curp_model.specs.World.{World}
 use Rattle.curp_facts.specs.Facts.{IsMasterOf, WasTaken, IsAmong, WasSent, lists_of_part}
-use Rattle.curp_law_growth.specs.Deeds.{IsFor}
+use Rattle.curp_law_kept.specs.Deeds.{IsFor}
 use Rattle.curp_law_kept.specs.ManagerEffect.{EntryKeeps, ManagerEffect, MovingKeeps}
 use Rattle.curp_facts.specs.Known.{Known}
 use Rattle.curp_law_kept.proofs.ManagersAdopt.{prepared_does, recover_does, recovered_does, replace_does}
 use Rattle.curp_law_kept.proofs.ManagersSay.{configuration_does, entries_keep, expire_does, nudge_does, refused, rests, stays, take_word}
-use Rattle.curp_law_names.proofs.Keeps.{entry_now}
-use Rattle.curp_law_names.proofs.Lists.{filter_among, first_among}
+use Rattle.curp_law_kept.proofs.Keeps.{entry_now}
+use Rattle.curp_law_kept.proofs.NumberedLists.{filter_among, first_among}
 
 module _ {w : World} (known : Known w) where
   -- ---- migrations

@@ -28,7 +28,7 @@ use Rattle.curp_facts.specs.Facts.{IsAdoptedNow, IsAmong, IsGiven, HasLog, Lists
 use Rattle.curp_facts.specs.Growth.{Grows}
 use Rattle.curp_facts.specs.Invariant.{Invariant, MigrationOk, PresentOk}
 use Rattle.curp_facts.specs.Nodes.{BackupOk, ClientOk, FreshOk, MasterOk, StartedAt, WitnessOk}
-use Rattle.curp_law_growth.specs.Deeds.{IsFor}
+use Rattle.curp_law_kept.specs.Deeds.{IsFor}
 use Rattle.curp_law_kept.specs.ManagerEffect.{EntryKeeps, IsOrdered, ManagerEffect, Uttered}
 use Rattle.curp_facts.specs.Known.{Known}
 use Rattle.curp_law_kept.proofs.Known.{fits, knows_later}
@@ -37,14 +37,14 @@ use Rattle.curp_law_kept.proofs.ManagersReady.{from_all, given_cases, manager_fo
 use Rattle.curp_law_kept.proofs.Moved.{messages_say, says_no_more, sent_now}
 use Rattle.curp_facts.specs.Names.{IsOf, Names}
 use Rattle.curp_facts.specs.Fits.{sender_kind}
-use Rattle.curp_law_names.proofs.Later.{Later}
-use Rattle.curp_law_names.proofs.Lists.{among_each}
-use Rattle.curp_law_names.proofs.Steps.{manager_moved, moved_messages}
-use Rattle.curp_law_stays.proofs.Entries.{ordered_later}
-use Rattle.curp_law_stays.proofs.Masters.{master_ok_later}
-use Rattle.curp_law_stays.proofs.Nodes.{backup_ok_later, completed_by_later, read_later, witness_ok_later}
-use Rattle.curp_law_stays.proofs.Said.{says_later}
-use Rattle.curp_law_stays.proofs.Words.{Follows, given_later, ready_later, sent_later}
+use Rattle.curp_law_kept.proofs.Later.{Later}
+use Rattle.curp_law_kept.proofs.NumberedLists.{among_each}
+use Rattle.curp_law_kept.proofs.ManagerWorlds.{manager_moved, moved_messages}
+use Rattle.curp_law_kept.proofs.Entries.{ordered_later}
+use Rattle.curp_law_kept.proofs.MastersStay.{master_ok_later}
+use Rattle.curp_law_kept.proofs.Nodes.{backup_ok_later, completed_by_later, read_later, witness_ok_later}
+use Rattle.curp_law_kept.proofs.Said.{says_later}
+use Rattle.curp_law_kept.proofs.Words.{Follows, given_later, ready_later, sent_later}
 use Rattle.curp_base.proofs.Numbered.{number_within, place as place_of}
 
 -- what stands among grown nodes was there, or is fresh and wasn't

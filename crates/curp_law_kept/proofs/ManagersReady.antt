@@ -23,9 +23,9 @@ use Rattle.curp_facts.specs.Known.{Known}
 use Rattle.curp_law_kept.proofs.Known.{said}
 use Rattle.curp_law_kept.proofs.Moved.{sent_back, sent_cases}
 use Rattle.curp_facts.specs.Names.{Names, RecoverOrderOk, PrepareOk}
-use Rattle.curp_law_names.proofs.Later as names
-use Rattle.curp_law_names.proofs.Later.{Later}
-use Rattle.curp_law_stays.proofs.Words.{Follows}
+use Rattle.curp_law_kept.proofs.Later as names
+use Rattle.curp_law_kept.proofs.Later.{Later}
+use Rattle.curp_law_kept.proofs.Words.{Follows}
 
 -- a node of another kind isn't the manager
 pub other_kind : (node : NodeId) (k : NodeKind) → node.kind ≡ k → k ≢ kind.Manager → node ≢ manager_node

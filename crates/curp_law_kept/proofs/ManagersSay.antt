@@ -23,9 +23,9 @@ use Rattle.curp_facts.specs.Facts.{EntryWas, IsAmong, lists_of_part}
 use Rattle.curp_law_kept.specs.ManagerEffect.{EntryKeeps, ManagerEffect, MovingKeeps, OrdersOnce, ToldAgain, Uttered}
 use Rattle.curp_facts.specs.Known.{Known}
 use Rattle.curp_facts.specs.Names.{AdoptedOk, RecoveringOk, ReplacingOk}
-use Rattle.curp_law_names.proofs.Keeps.{entry_now}
-use Rattle.curp_law_names.proofs.Lists.{among_each, each_among}
-use Rattle.curp_law_names.proofs.Says.{each_flat}
+use Rattle.curp_law_kept.proofs.Keeps.{entry_now}
+use Rattle.curp_law_kept.proofs.NumberedLists.{among_each, each_among}
+use Rattle.curp_law_kept.proofs.Says.{each_flat}
 
 -- a message that adopts nothing
 pub record Word (w : World) (m : Message) : Type 0 where

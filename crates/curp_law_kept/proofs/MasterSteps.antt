@@ -18,7 +18,7 @@ use Rattle.curp_facts.specs.Growth.{Grows}
 use Rattle.curp_facts.specs.Invariant.{Invariant}
 use Rattle.curp_facts.specs.Nodes.{BackupOk, MasterOk, StartedAt, WitnessOk}
 use Rattle.curp_facts.specs.Said.{Says}
-use Rattle.curp_law_growth.specs.Deeds.{IsFor}
+use Rattle.curp_law_kept.specs.Deeds.{IsFor}
 use Rattle.curp_facts.specs.Known.{Known}
 use Rattle.curp_law_kept.proofs.Known.{Frame, all_say, clients_stay, completed_stays, given_before, history_stays, present_stays, moving_stays, reads_stay}
 use Rattle.curp_law_kept.proofs.MastersKept.{master_keeps}
@@ -26,10 +26,10 @@ use Rattle.curp_law_kept.proofs.MastersMoves.{MasterStep, input_step}
 use Rattle.curp_law_kept.proofs.MastersReady.{step_follows}
 use Rattle.curp_law_kept.proofs.MastersSaid.{master_says}
 use Rattle.curp_law_kept.proofs.Moved.{given_back, ready_back, says_no_more}
-use Rattle.curp_law_names.proofs.Later.{Later}
-use Rattle.curp_law_stays.proofs.Masters.{master_ok_later}
-use Rattle.curp_law_stays.proofs.Nodes.{backup_ok_later, witness_ok_later}
-use Rattle.curp_law_stays.proofs.Words.{Follows, one_state}
+use Rattle.curp_law_kept.proofs.Later.{Later}
+use Rattle.curp_law_kept.proofs.MastersStay.{master_ok_later}
+use Rattle.curp_law_kept.proofs.Nodes.{backup_ok_later, witness_ok_later}
+use Rattle.curp_law_kept.proofs.Words.{Follows, one_state}
 use Rattle.curp_cmd.proofs.Nodes.{either_node}
 
 module _ {w v : World} (known : Known w) where

@@ -38,9 +38,9 @@ use Rattle.curp_facts.specs.Said.{AdoptedSaid, AppendHolds, AppendSaid, Appended
 use Rattle.curp_law_kept.proofs.Apart.{one_some}
 use Rattle.curp_facts.specs.Known.{Known}
 use Rattle.curp_law_kept.proofs.Known.{from_manager, said}
-use Rattle.curp_law_logs.proofs.Frozen.{kept_held}
-use Rattle.curp_law_logs.proofs.Logs.{log_prefix}
-use Rattle.curp_law_masters.specs.Moves.{Hears, HearsAnswer, HearsLog, HearsStored, HearsSuspects, RecoveryHears}
+use Rattle.curp_law_kept.proofs.Frozen.{kept_held}
+use Rattle.curp_law_kept.proofs.Logs.{log_prefix}
+use Rattle.curp_law_kept.specs.Moves.{Hears, HearsAnswer, HearsLog, HearsStored, HearsSuspects, RecoveryHears}
 use Rattle.curp_facts.specs.Names.{RecoverOrderOk, PrepareOk}
 
 -- a master has one log

@@ -29,14 +29,14 @@ use Rattle.curp_law_kept.proofs.MastersHeard.{order_lowest}
 use Rattle.curp_law_kept.proofs.MastersMoves.{GetsOrder, MasterStep, StageMove, StartsToServe}
 use Rattle.curp_law_kept.proofs.MastersReady.{next_given, no_switch, step_follows}
 use Rattle.curp_law_kept.proofs.Moved.{sent_cases, sent_now}
-use Rattle.curp_law_masters.specs.Moves.{Begins, IsSaidBy, ListsMove, Prepares, RecoveryMove, RecoverySays, SaysAll, SaysPrepared, ServingMove, ServingSays, Stays, TakesUp}
-use Rattle.curp_law_masters.specs.Stages.{FreshSays}
+use Rattle.curp_law_kept.specs.Moves.{Begins, IsSaidBy, ListsMove, Prepares, RecoveryMove, RecoverySays, SaysAll, SaysPrepared, ServingMove, ServingSays, Stays, TakesUp}
+use Rattle.curp_law_kept.specs.Stages.{FreshSays}
 use Rattle.curp_facts.specs.Names.{AdoptedOk, RecoverOrderOk}
-use Rattle.curp_law_names.proofs.Lists.{among_each}
-use Rattle.curp_law_stays.proofs.Entries.{log_ok_later}
-use Rattle.curp_law_stays.proofs.Masters.{acknowledged_later, captures_later, stage_later}
-use Rattle.curp_law_stays.proofs.Words.{Follows, adopted_later, hi_later, lo_later, one_state, sent_later}
-use Rattle.curp_law_masters.proofs.Acknowledging.{one_switch}
+use Rattle.curp_law_kept.proofs.NumberedLists.{among_each}
+use Rattle.curp_law_kept.proofs.Entries.{log_ok_later}
+use Rattle.curp_law_kept.proofs.MastersStay.{acknowledged_later, captures_later, stage_later}
+use Rattle.curp_law_kept.proofs.Words.{Follows, adopted_later, hi_later, lo_later, one_state, sent_later}
+use Rattle.curp_law_kept.proofs.Acknowledging.{one_switch}
 
 module _ {w v : World} (known : Known w) {n : ℕ} {from : NodeId} {heard : Option Body} {m k : MasterStage} {out : List Message} (s : MasterStep w v n from heard m k out) where
   f : Follows w v

@@ -22,18 +22,18 @@ use Rattle.curp_facts.specs.Facts.{ByReplacement, WasSent, lists_of_prepare}
 use Rattle.curp_facts.specs.Growth.{Grows}
 use Rattle.curp_facts.specs.Kept.{lists_of_master}
 use Rattle.curp_facts.specs.Nodes.{RecovererOk, ServingOk}
-use Rattle.curp_law_growth.specs.Deeds.{IsFor}
+use Rattle.curp_law_kept.specs.Deeds.{IsFor}
 use Rattle.curp_law_kept.proofs.Apart.{one_some}
 use Rattle.curp_facts.specs.Known.{Known}
 use Rattle.curp_law_kept.proofs.Known.{Frame, from_manager}
 use Rattle.curp_law_kept.proofs.MastersHeard.{filled, recovery_hears, serving_hears}
-use Rattle.curp_law_masters.specs.Moves.{IsSaidBy, RecoveryMove, RecoverySays, ServingMove, ServingSays}
-use Rattle.curp_law_masters.specs.Stages.{BeginningOk, FreshSays}
-use Rattle.curp_law_masters.proofs.Inputs.{serving_moves}
-use Rattle.curp_law_masters.proofs.Ordered.{serving_ordered_moves}
-use Rattle.curp_law_masters.proofs.Recovering.{at, fresh_moves, recovering_moves, recovery_ordered_moves}
+use Rattle.curp_law_kept.specs.Moves.{IsSaidBy, RecoveryMove, RecoverySays, ServingMove, ServingSays}
+use Rattle.curp_law_kept.specs.Stages.{BeginningOk, FreshSays}
+use Rattle.curp_law_kept.proofs.Inputs.{serving_moves}
+use Rattle.curp_law_kept.proofs.Ordered.{serving_ordered_moves}
+use Rattle.curp_law_kept.proofs.Recovering.{at, fresh_moves, recovering_moves, recovery_ordered_moves}
 use Rattle.curp_facts.specs.Names.{RecoverOrderOk}
-use Rattle.curp_law_names.proofs.Later.{Later}
+use Rattle.curp_law_kept.proofs.Later.{Later}
 
 -- a fresh master gets its order
 pub record GetsOrder (w : World) (n : ℕ) (t : RecoveryState) (out : List Message) : Type 0 where

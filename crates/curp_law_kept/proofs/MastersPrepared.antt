@@ -27,11 +27,11 @@ use Rattle.curp_law_kept.proofs.MastersHeard.{backup_prefix, one_log, serving_lo
 use Rattle.curp_law_kept.proofs.MastersMoves.{MasterStep}
 use Rattle.curp_law_kept.proofs.MastersReady.{next_given, no_switch, step_follows}
 use Rattle.curp_law_kept.proofs.Moved.{at_back, sent_now}
-use Rattle.curp_law_masters.specs.Moves.{AppendSays, Begins, HasAcknowledged, IsSaidBy, ListsMove, Prepares, PreparedSays, ServingMove, ServingSays, Stays, TakesUp}
-use Rattle.curp_law_masters.proofs.Synced.{acknowledged_many}
-use Rattle.curp_law_stays.proofs.Prepared.{prepared_later}
-use Rattle.curp_law_stays.proofs.Words.{Follows, given_later, message_at, one_state}
-use Rattle.curp_law_masters.proofs.Acknowledging.{one_switch}
+use Rattle.curp_law_kept.specs.Moves.{AppendSays, Begins, HasAcknowledged, IsSaidBy, ListsMove, Prepares, PreparedSays, ServingMove, ServingSays, Stays, TakesUp}
+use Rattle.curp_law_kept.proofs.Synced.{acknowledged_many}
+use Rattle.curp_law_kept.proofs.Prepared.{prepared_later}
+use Rattle.curp_law_kept.proofs.Words.{Follows, given_later, message_at, one_state}
+use Rattle.curp_law_kept.proofs.Acknowledging.{one_switch}
 
 -- ---- lists
 

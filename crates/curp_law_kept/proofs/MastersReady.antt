@@ -25,13 +25,13 @@ use Rattle.curp_facts.specs.Known.{Known}
 use Rattle.curp_law_kept.proofs.MastersHeard.{one_log}
 use Rattle.curp_law_kept.proofs.MastersMoves.{MasterStep, StageMove}
 use Rattle.curp_law_kept.proofs.Moved.{given_back, sent_back, sent_cases}
-use Rattle.curp_law_masters.specs.Moves.{Begins, IsSaidBy, ListsMove, Prepares, PreparedSays, RecoverySays, ServingMove, ServingSays, Stays, TakesUp}
-use Rattle.curp_law_masters.specs.Stages.{FreshSays}
-use Rattle.curp_law_masters.proofs.Among.{each_tested, found_among}
-use Rattle.curp_law_masters.proofs.Synced.{acknowledged_many}
-use Rattle.curp_law_names.proofs.Lists.{among_each}
-use Rattle.curp_law_stays.proofs.Words.{Follows, one_state}
-use Rattle.curp_law_masters.proofs.Acknowledging.{one_switch}
+use Rattle.curp_law_kept.specs.Moves.{Begins, IsSaidBy, ListsMove, Prepares, PreparedSays, RecoverySays, ServingMove, ServingSays, Stays, TakesUp}
+use Rattle.curp_law_kept.specs.Stages.{FreshSays}
+use Rattle.curp_law_kept.proofs.Among.{each_tested, found_among}
+use Rattle.curp_law_kept.proofs.Synced.{acknowledged_many}
+use Rattle.curp_law_kept.proofs.NumberedLists.{among_each}
+use Rattle.curp_law_kept.proofs.Words.{Follows, one_state}
+use Rattle.curp_law_kept.proofs.Acknowledging.{one_switch}
 
 -- who is open doesn't switch
 pub no_switch : {p : Phase} {s : Switch} → p ≡ Open → p ≡ Switching s → ⊥

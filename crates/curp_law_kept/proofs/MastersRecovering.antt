@@ -27,11 +27,11 @@ use Rattle.curp_law_kept.proofs.MastersKept.{master_keeps}
 use Rattle.curp_law_kept.proofs.MastersMoves.{MasterStep}
 use Rattle.curp_law_kept.proofs.MastersPrepared.{prefix_whole}
 use Rattle.curp_law_kept.proofs.MastersReady.{all_stored, given_was, manager_was, many_now, step_follows, stored_many}
-use Rattle.curp_law_masters.specs.Moves.{IsWholeLog, RecoverySays}
+use Rattle.curp_law_kept.specs.Moves.{IsWholeLog, RecoverySays}
 use Rattle.curp_facts.specs.Names.{RecoverOrderOk}
-use Rattle.curp_law_stays.proofs.Entries.{refusal_later}
-use Rattle.curp_law_stays.proofs.Nodes.{backup_ok_later}
-use Rattle.curp_law_stays.proofs.Words.{Follows, given_later}
+use Rattle.curp_law_kept.proofs.Entries.{refusal_later}
+use Rattle.curp_law_kept.proofs.Nodes.{backup_ok_later}
+use Rattle.curp_law_kept.proofs.Words.{Follows, given_later}
 
 module _ {w v : World} (known : Known w) {n : ℕ} {from : NodeId} {heard : Option Body} {m : MasterStage} {t : RecoveryState} {out : List Message} (s : MasterStep w v n from heard m (Recovering t) out)
     (stage : StageOk w t t.phase) where

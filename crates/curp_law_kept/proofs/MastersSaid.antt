@@ -21,9 +21,9 @@ use Rattle.curp_law_kept.proofs.MastersPrepared.{prepared_says}
 use Rattle.curp_law_kept.proofs.MastersReady.{step_follows}
 use Rattle.curp_law_kept.proofs.MastersRecovering.{recovering_says}
 use Rattle.curp_law_kept.proofs.MastersSay.{append_says, entry_says, gc_says, give_ordered, reply_says, worth_says, quick_says}
-use Rattle.curp_law_masters.specs.Moves.{IsSaidBy, PreparedSays, RecoverySays, ServingSays}
-use Rattle.curp_law_masters.specs.Stages.{FreshSays}
-use Rattle.curp_law_stays.proofs.Entries.{refusal_later}
+use Rattle.curp_law_kept.specs.Moves.{IsSaidBy, PreparedSays, RecoverySays, ServingSays}
+use Rattle.curp_law_kept.specs.Stages.{FreshSays}
+use Rattle.curp_law_kept.proofs.Entries.{refusal_later}
 use Rattle.curp_law_kept.proofs.Moved.{sent_now}
 
 module _ {w v : World} (known : Known w) {n : ℕ} {from : NodeId} {heard : Option Body} where

@@ -35,21 +35,21 @@ use Rattle.curp_law_kept.proofs.MastersHeard.{order_lowest, one_log}
 use Rattle.curp_law_kept.proofs.MastersKept.{lists_adopted, master_keeps}
 use Rattle.curp_law_kept.proofs.MastersMoves.{MasterStep}
 use Rattle.curp_law_kept.proofs.MastersReady.{given_was, manager_was, many_now, no_switch, step_follows}
-use Rattle.curp_law_logs.specs.Standing.{StandsHere}
-use Rattle.curp_law_logs.proofs.Standings.{stands_at, stands_here}
-use Rattle.curp_law_masters.specs.Moves.{GiveOrdered, AppendSays, CollectableIn, EarlySays, GcSays, ReplyKind, ReplySays, ServingMove, StoredSays, SyncedSays, WorthSays, IsSaidBy, QuickSays, ServingSays}
-use Rattle.curp_law_masters.proofs.Synced.{synced_many}
+use Rattle.curp_law_kept.specs.Standing.{StandsHere}
+use Rattle.curp_law_kept.proofs.Standings.{stands_at, stands_here}
+use Rattle.curp_law_kept.specs.Moves.{GiveOrdered, AppendSays, CollectableIn, EarlySays, GcSays, ReplyKind, ReplySays, ServingMove, StoredSays, SyncedSays, WorthSays, IsSaidBy, QuickSays, ServingSays}
+use Rattle.curp_law_kept.proofs.Synced.{synced_many}
 use Rattle.curp_law_kept.proofs.Apart.{among_cases}
-use Rattle.curp_law_names.proofs.Lists.{filter_among, among_each}
-use Rattle.curp_law_stays.proofs.Entries.{ordered_later}
-use Rattle.curp_law_stays.proofs.Words.{Follows, adopted_later, event_at, given_later, message_at, log_later, one_state}
+use Rattle.curp_law_kept.proofs.NumberedLists.{filter_among, among_each}
+use Rattle.curp_law_kept.proofs.Entries.{ordered_later}
+use Rattle.curp_law_kept.proofs.Words.{Follows, adopted_later, event_at, given_later, message_at, log_later, one_state}
 use Rattle.std.proofs.Math.Seq.{take-length}
 use Rattle.curp_cmd.specs.declared.command.Command.TheVariants.{Get}
 use Rattle.curp_msg.specs.declared.body.Quick.{Quick}
 use Rattle.curp_range.specs.Spans.{is_owned}
 use Rattle.curp_model.specs.Ranges.{owns_all}
 use Rattle.curp_law_kept.proofs.Moved.{sent_cases}
-use Rattle.curp_law_masters.proofs.Clean.{clean_apart}
+use Rattle.curp_law_kept.proofs.Clean.{clean_apart}
 
 -- ---- what is synced lies in the log
 

@@ -10,7 +10,7 @@ use Rattle.curp_model.specs.World.{World, messages}
 use Rattle.curp_facts.specs.Facts.{AtOpening, ByRecovery, ByReplacement, IsAmong, IsGiven, Lists, WasAdopted, WasSent}
 use Rattle.curp_facts.specs.Reach.{IsReady}
 use Rattle.curp_facts.specs.Said.{Says}
-use Rattle.curp_law_stays.proofs.Masters.{SaysNoMore}
+use Rattle.curp_law_kept.proofs.MastersStay.{SaysNoMore}
 
 module _ (w v : World) (out : List Message) (e : messages v ≡ messages w ++ out) where
   pub at_back : (k : ℕ) (m : Message) → At (messages v) k m → At (messages w) k m ⊎ ((j : ℕ) × (k ≡ length (messages w) + j) × At out j m)

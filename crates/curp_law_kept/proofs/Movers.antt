@@ -14,16 +14,16 @@ use Rattle.curp_model.specs.Manager.{adoption, manager_input}
 use Rattle.curp_model.specs.Recovery.{master_input}
 use Rattle.curp_model.specs.Witness.{witness_input}
 use Rattle.curp_model.specs.World.{World, messages}
-use Rattle.curp_law_growth.specs.Deeds.{IsFor}
-use Rattle.curp_law_keepers.specs.BackupEffect.{BackupSays}
-use Rattle.curp_law_keepers.specs.WitnessEffect.{WitnessSays}
-use Rattle.curp_law_keepers.proofs.Backups.{backup_effect}
-use Rattle.curp_law_keepers.proofs.Witnesses.{witness_effect}
+use Rattle.curp_law_kept.specs.Deeds.{IsFor}
+use Rattle.curp_law_kept.specs.BackupEffect.{BackupSays}
+use Rattle.curp_law_kept.specs.WitnessEffect.{WitnessSays}
+use Rattle.curp_law_kept.proofs.BackupEffects.{backup_effect}
+use Rattle.curp_law_kept.proofs.WitnessEffects.{witness_effect}
 use Rattle.curp_law_kept.proofs.Cases.{ByBackup, ByClient, ByManager, ByMaster, ByWitness, Rests, StepCase, Stays}
 use Rattle.curp_law_kept.proofs.Clients.{client_messages}
 use Rattle.curp_facts.specs.Known.{Known}
 use Rattle.curp_law_kept.proofs.MastersMoves.{heard_in, input_moves, speaker, stage_from}
-use Rattle.curp_law_names.proofs.Steps.{manager_moved}
+use Rattle.curp_law_kept.proofs.ManagerWorlds.{manager_moved}
 use Rattle.curp_model.proofs.Batches.{all_of-kept}
 
 -- one node that isn't the manager has said this more

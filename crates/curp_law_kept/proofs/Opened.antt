@@ -24,10 +24,10 @@ use Rattle.curp_facts.specs.Invariant.{Invariant, MigrationOk, PresentOk}
 use Rattle.curp_facts.specs.Nodes.{BackupOk, ClientOk, MasterOk, StartedAt, WitnessOk}
 use Rattle.curp_facts.specs.Reach.{HasStored}
 use Rattle.curp_msg.specs.Script.{IsHeader}
-use Rattle.curp_law_keepers.proofs.ClientLater.{fresh_knows, fresh_numbers, no_history}
+use Rattle.curp_law_kept.proofs.ClientLater.{fresh_knows, fresh_numbers, no_history}
 use Rattle.curp_facts.specs.Names.{IsOf}
-use Rattle.curp_law_names.proofs.Lists.{among_each, each_among}
-use Rattle.curp_law_names.proofs.Opened.{opening_names}
+use Rattle.curp_law_kept.proofs.NumberedLists.{among_each, each_among}
+use Rattle.curp_law_kept.proofs.OpenedNames.{opening_names}
 use Rattle.curp_base.proofs.Numbered.{numbers_back, place as place_of}
 
 master_named : (node : NodeId) (n : ℕ) → node.kind ≡ kind.Master → n ≡ node.number → master_node n ≡ node

@@ -18,9 +18,9 @@ use Rattle.curp_facts.specs.Reach.{IsReady, Whole}
 use Rattle.curp_facts.specs.Known.{Known}
 use Rattle.curp_law_kept.proofs.Moved.{given_back, ready_back, says_no_more}
 use Rattle.curp_facts.specs.Names.{Names}
-use Rattle.curp_law_stays.proofs.Masters.{master_ok_later}
-use Rattle.curp_law_stays.proofs.Nodes.{backup_ok_later, witness_ok_later}
-use Rattle.curp_law_stays.proofs.Words.{Follows}
+use Rattle.curp_law_kept.proofs.MastersStay.{master_ok_later}
+use Rattle.curp_law_kept.proofs.Nodes.{backup_ok_later, witness_ok_later}
+use Rattle.curp_law_kept.proofs.Words.{Follows}
 
 -- a node has one kind
 other_kind : {a b : NodeId} (k : NodeKind) → a.kind ≡ k → b.kind ≢ k → a ≢ b

@@ -28,12 +28,12 @@ use Rattle.curp_model.specs.World.{World, deed_of, delivery, effect, events_of, 
 use Rattle.curp_facts.specs.Growth.{Grows}
 use Rattle.curp_facts.specs.Invariant.{Invariant}
 use Rattle.curp_msg.specs.Script.{IsHeader, IsRun, IsStep}
-use Rattle.curp_law_growth.specs.Deeds.{IsFor}
-use Rattle.curp_law_growth.proofs.Deeds.{done_taken}
+use Rattle.curp_law_kept.specs.Deeds.{IsFor}
+use Rattle.curp_law_kept.proofs.Deeds.{done_taken}
 use Rattle.curp_facts.specs.Facts.{WasSent}
 use Rattle.curp_base.proofs.Numbered.{numbered_set_same, place}
-use Rattle.curp_law_growth.proofs.Reached.{grows_steady, reached_steady}
-use Rattle.curp_law_growth.proofs.Worlds.{step_grows}
+use Rattle.curp_law_kept.proofs.Reached.{grows_steady, reached_steady}
+use Rattle.curp_law_kept.proofs.WorldsGrow.{step_grows}
 use Rattle.curp_facts.specs.Known.{Known}
 use Rattle.curp_law_kept.proofs.Known.{fits}
 use Rattle.curp_law_kept.proofs.ManagersKeep.{manager_keeps}
@@ -42,10 +42,10 @@ use Rattle.curp_law_kept.proofs.MastersMoves.{heard_in, input_idle, input_moves,
 use Rattle.curp_law_kept.proofs.Opened.{opening_keeps}
 use Rattle.curp_law_kept.proofs.Worlds.{backup_world, client_world, other_item, same_history, witness_world}
 use Rattle.curp_facts.specs.Names.{Names}
-use Rattle.curp_law_names.proofs.Later.{Later}
-use Rattle.curp_law_names.proofs.Opened.{opening_names, opening_nodes}
-use Rattle.curp_law_names.proofs.Others.{Both}
-use Rattle.curp_law_names.proofs.Runs.{step_goes}
+use Rattle.curp_law_kept.proofs.Later.{Later}
+use Rattle.curp_law_kept.proofs.OpenedNames.{opening_names, opening_nodes}
+use Rattle.curp_law_kept.proofs.OthersNames.{Both}
+use Rattle.curp_law_kept.proofs.Runs.{step_goes}
 use Rattle.curp_model.proofs.Batches.{all_of-kept}
 
 -- an order to invoke comes to clients alone

@@ -26,15 +26,15 @@ use Rattle.curp_facts.specs.Entries.{UpdateOk}
 use Rattle.curp_facts.specs.Facts.{IsAmong, IsGiven, Lists, WasSent}
 use Rattle.curp_facts.specs.Nodes.{StartedAt, WitnessOk}
 use Rattle.curp_facts.specs.Said.{Says, SuspectsHold, UpdateSaid, ProbeSaid}
-use Rattle.curp_law_growth.specs.Deeds.{IsFor}
-use Rattle.curp_law_keepers.specs.Brought.{Brings}
-use Rattle.curp_law_keepers.specs.WitnessEffect.{AcceptedSays, ByFreeze, ByStart, GcAnswerSays, RejectedSays, Stays, WitnessAnswers, WitnessEffect, WitnessLife, WitnessSays, held_requests, ProbedSays}
-use Rattle.curp_law_keepers.proofs.Brought.{brought_sent}
+use Rattle.curp_law_kept.specs.Deeds.{IsFor}
+use Rattle.curp_law_kept.specs.Brought.{Brings}
+use Rattle.curp_law_kept.specs.WitnessEffect.{AcceptedSays, ByFreeze, ByStart, GcAnswerSays, RejectedSays, Stays, WitnessAnswers, WitnessEffect, WitnessLife, WitnessSays, held_requests, ProbedSays}
+use Rattle.curp_law_kept.proofs.Brought.{brought_sent}
 use Rattle.curp_facts.specs.Known.{Known}
 use Rattle.curp_law_kept.proofs.Known.{from_manager, said}
 use Rattle.curp_facts.specs.Names.{StartOk}
-use Rattle.curp_law_stays.proofs.Entries.{update_later}
-use Rattle.curp_law_stays.proofs.Words.{Follows, event_at}
+use Rattle.curp_law_kept.proofs.Entries.{update_later}
+use Rattle.curp_law_kept.proofs.Words.{Follows, event_at}
 use Rattle.curp_msg.specs.declared.body.Probe.{Probe}
 use Rattle.curp_msg.specs.declared.body.Probed.{Probed}
 use Rattle.std.proofs.lemmas.Bool.Decides.{nat_tests}

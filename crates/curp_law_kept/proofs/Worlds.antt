@@ -12,14 +12,14 @@ use Rattle.curp_model.specs.Witness.{WitnessState, witness_input}
 use Rattle.curp_model.specs.World.{World, completion, invocation_of, kept, with_backup, with_client, with_witness}
 use Rattle.curp_facts.specs.Growth.{Grows}
 use Rattle.curp_facts.specs.Invariant.{Invariant}
-use Rattle.curp_law_growth.specs.Deeds.{IsFor}
+use Rattle.curp_law_kept.specs.Deeds.{IsFor}
 use Rattle.curp_base.proofs.Numbered.{numbered_set_cases, numbered_set_same}
-use Rattle.curp_law_keepers.proofs.Backups.{backup_effect}
-use Rattle.curp_law_keepers.proofs.Witnesses.{witness_effect}
+use Rattle.curp_law_kept.proofs.BackupEffects.{backup_effect}
+use Rattle.curp_law_kept.proofs.WitnessEffects.{witness_effect}
 use Rattle.curp_law_kept.proofs.ClientSteps.{client_step}
 use Rattle.curp_law_kept.proofs.KeeperSteps.{backup_step, witness_step}
 use Rattle.curp_facts.specs.Known.{Known}
-use Rattle.curp_law_names.proofs.Later.{Later}
+use Rattle.curp_law_kept.proofs.Later.{Later}
 use Rattle.curp_model.proofs.Batches.{all_of-kept}
 
 -- where nothing is invoked and nothing completes, the history stays

@@ -1,1 +1,13 @@
+pub mod Deeds
+pub mod After
+pub mod Hashes
+pub mod Standing
+pub mod GivesFit
+pub mod Migrations
+pub mod Brought
+pub mod BackupEffect
+pub mod WitnessEffect
+pub mod ClientEffect
+pub mod Moves
+pub mod Stages
 pub mod ManagerEffect

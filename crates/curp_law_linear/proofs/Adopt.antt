@@ -18,10 +18,10 @@ use Rattle.curp_model.proofs.Replays.{replay_is}
 use Rattle.curp_facts.specs.Facts.{phase_log}
 use Rattle.curp_law_kept.specs.ManagerEffect.{ManagerEffect}
 use Rattle.curp_facts.specs.Known.{Known}
-use Rattle.curp_law_line.specs.Hashes.{Part}
-use Rattle.curp_law_line.specs.Line.{Left}
-use Rattle.curp_law_line.specs.Moves.{Adopt, AdoptFits, adopting, left_after, ops, relogged, replayed_of}
-use Rattle.curp_law_line.specs.OfWorld.{cuts, entries_at, left_of, line_of, logged_entries, moving_of, part_of}
+use Rattle.curp_law_linear.specs.Hashes.{Part}
+use Rattle.curp_law_linear.specs.Line.{Left}
+use Rattle.curp_law_linear.specs.Moves.{Adopt, AdoptFits, adopting, left_after, ops, relogged, replayed_of}
+use Rattle.curp_law_linear.specs.OfWorld.{cuts, entries_at, left_of, line_of, logged_entries, moving_of, part_of}
 use Rattle.curp_law_linear.specs.Ordered.{Ordered}
 use Rattle.curp_law_linear.proofs.AdoptDone.{adopt, done_replayed}
 use Rattle.curp_law_linear.proofs.AdoptHeld.{cuts_short, held_apart, held_asked, looks_short, quicks_short}
@@ -34,8 +34,8 @@ use Rattle.curp_law_linear.proofs.Managers.{moved_line, moved_marks}
 use Rattle.curp_law_linear.proofs.ManagersLine.{entries_grown, seat, seated, seated_grown, seated_parts}
 use Rattle.curp_law_linear.proofs.Parts.{entry_part}
 use Rattle.curp_facts.specs.Names.{Names}
-use Rattle.curp_law_names.proofs.Later.{Later}
-use Rattle.curp_law_names.proofs.Steps.{manager_moved}
+use Rattle.curp_law_kept.proofs.Later.{Later}
+use Rattle.curp_law_kept.proofs.ManagerWorlds.{manager_moved}
 use Rattle.curp_facts.specs.Predecessors.{Predecessors}
 use Rattle.curp_facts.specs.Migrated.{Migrated}
 use Rattle.curp_facts.specs.Routes.{Routes}

@@ -31,11 +31,11 @@ use Rattle.curp_facts.specs.Reach.{EarlySaid, HasMany, Reach, SyncedSaid, Tells}
 use Rattle.curp_facts.specs.Said.{ReplyHolds, ReplySaid, StoredEntry}
 use Rattle.curp_facts.specs.Known.{Known}
 use Rattle.curp_law_kept.proofs.Known.{said}
-use Rattle.curp_law_line.specs.Line.{IsCompleted}
-use Rattle.curp_law_line.specs.Moves.{Adopt, IsReplayedAs}
-use Rattle.curp_law_line.specs.OfWorld.{part_of}
-use Rattle.curp_law_line.proofs.Lists.{from_filter}
-use Rattle.curp_law_logs.proofs.Ranges.{each_touched}
+use Rattle.curp_law_linear.specs.Line.{IsCompleted}
+use Rattle.curp_law_linear.specs.Moves.{Adopt, IsReplayedAs}
+use Rattle.curp_law_linear.specs.OfWorld.{part_of}
+use Rattle.curp_law_linear.proofs.Lists.{from_filter}
+use Rattle.curp_law_kept.proofs.Ranges.{each_touched}
 use Rattle.curp_law_linear.specs.Ordered.{Ordered}
 use Rattle.curp_law_linear.proofs.AdoptHeld.{held_apart, held_update}
 use Rattle.curp_law_linear.proofs.AdoptMigrations.{adopted_at, goes_at, one_entry, stored_stays}

@@ -9,9 +9,9 @@ use Rattle.curp_msg.specs.declared.config.PartConfig.{PartConfig}
 use Rattle.curp_model.specs.Marks.{Mark, adoptions}
 use Rattle.curp_model.specs.World.{World}
 use Rattle.curp_facts.specs.Facts.{lists_of_part}
-use Rattle.curp_law_line.specs.Hashes.{Part}
-use Rattle.curp_law_line.specs.Line.{Left}
-use Rattle.curp_law_line.specs.OfWorld.{Reign, cut_length, cuts, entries_at, left_at, left_by, left_of, no_left, part_of, reign_of, reigns}
+use Rattle.curp_law_linear.specs.Hashes.{Part}
+use Rattle.curp_law_linear.specs.Line.{Left}
+use Rattle.curp_law_linear.specs.OfWorld.{Reign, cut_length, cuts, entries_at, left_at, left_by, left_of, no_left, part_of, reign_of, reigns}
 use Rattle.curp_law_linear.specs.Ordered.{reign_in}
 use Rattle.curp_law_linear.proofs.CutsAdopt.{count_reigns, reigns_push}
 use Rattle.curp_law_linear.proofs.Left.{left_stays, log_by}

@@ -25,14 +25,14 @@ use Rattle.curp_facts.specs.Facts.{HasLog, IsAdoptedNow, IsAmong, WasSent, hi_of
 use Rattle.curp_facts.specs.Kept.{AdoptedLog}
 use Rattle.curp_facts.specs.Known.{Known}
 use Rattle.curp_law_kept.proofs.Known.{fits}
-use Rattle.curp_law_line.specs.Hashes.{Part, is_give, is_take, owns}
-use Rattle.curp_law_line.specs.Line.{Ungiven}
-use Rattle.curp_law_line.specs.Moves.{OnlyMoving}
-use Rattle.curp_law_line.specs.OfWorld.{line_of, moving_of, part_of, told_by}
+use Rattle.curp_law_linear.specs.Hashes.{Part, is_give, is_take, owns}
+use Rattle.curp_law_linear.specs.Line.{Ungiven}
+use Rattle.curp_law_linear.specs.Moves.{OnlyMoving}
+use Rattle.curp_law_linear.specs.OfWorld.{line_of, moving_of, part_of, told_by}
 use Rattle.curp_base.proofs.Numbered.{any_at}
-use Rattle.curp_law_line.proofs.Spans.{owned_after, takes}
-use Rattle.curp_law_logs.specs.Gives.{GiveFits, GivesFit}
-use Rattle.curp_law_logs.specs.Hashes.{gives}
+use Rattle.curp_law_linear.proofs.Spans.{owned_after, takes}
+use Rattle.curp_law_kept.specs.GivesFit.{GiveFits, GivesFit}
+use Rattle.curp_law_kept.specs.Hashes.{gives}
 use Rattle.curp_law_linear.specs.Ordered.{Ordered}
 use Rattle.curp_law_linear.proofs.AdoptRecovery.{Recovery}
 use Rattle.curp_law_linear.proofs.ManagersMoves.{adopted_entry, adopted_ok}
@@ -43,7 +43,7 @@ use Rattle.curp_facts.specs.Migrated.{AllStored, Migrated, OnlyInWork, TakeStore
 use Rattle.curp_facts.specs.Routes.{Routes, order_of}
 use Rattle.curp_law_linear.proofs.Found.{none_any}
 use Rattle.curp_cmd.proofs.Apart.{same_number}
-use Rattle.curp_law_line.proofs.Entries.{give_entry, take_entry}
+use Rattle.curp_law_linear.proofs.Entries.{give_entry, take_entry}
 
 -- ---- words
 

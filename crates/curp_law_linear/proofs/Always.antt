@@ -20,10 +20,10 @@ use Rattle.curp_model.specs.Witness.{WitnessState, witness_input}
 use Rattle.curp_model.specs.World.{World, invocation_of, is_adopted, kept, master_marks, messages, with_backup, with_client, with_completion, with_glance, with_witness, quick_mark}
 use Rattle.curp_facts.specs.Growth.{Grows}
 use Rattle.curp_facts.specs.Kept.{AdoptedLog}
-use Rattle.curp_law_growth.specs.Deeds.{IsFor}
+use Rattle.curp_law_kept.specs.Deeds.{IsFor}
 use Rattle.curp_base.proofs.Numbered.{numbered_set_same}
-use Rattle.curp_law_keepers.proofs.Backups.{backup_effect}
-use Rattle.curp_law_keepers.proofs.Witnesses.{witness_effect}
+use Rattle.curp_law_kept.proofs.BackupEffects.{backup_effect}
+use Rattle.curp_law_kept.proofs.WitnessEffects.{witness_effect}
 use Rattle.curp_law_kept.proofs.Cases.{RestsIn}
 use Rattle.curp_law_kept.proofs.ClientSteps.{ClientMoved}
 use Rattle.curp_law_kept.proofs.Followed.{master_step, master_world}
@@ -32,10 +32,10 @@ use Rattle.curp_facts.specs.Known.{Known}
 use Rattle.curp_law_kept.proofs.MastersMoves.{heard_in, input_idle, speaker, MasterStep}
 use Rattle.curp_law_kept.proofs.Others.{SaysMore, nothing_ready}
 use Rattle.curp_law_kept.proofs.Worlds.{other_item, same_history}
-use Rattle.curp_law_line.specs.Line.{LineOk}
-use Rattle.curp_law_line.specs.OfWorld.{cuts, line_of}
-use Rattle.curp_law_line.proofs.Discharged.{pure, second}
-use Rattle.curp_law_line.proofs.Keeps.{all_keep}
+use Rattle.curp_law_linear.specs.Line.{LineOk}
+use Rattle.curp_law_linear.specs.OfWorld.{cuts, line_of}
+use Rattle.curp_law_linear.proofs.Discharged.{pure, second}
+use Rattle.curp_law_linear.proofs.Keeps.{all_keep}
 use Rattle.curp_law_linear.specs.Ordered.{AdoptedLogOk, Ordered}
 use Rattle.curp_law_linear.specs.Refined.{Refines, RefinesQuiet}
 use Rattle.curp_law_linear.proofs.ClientsRefine.{client_refines}
@@ -48,8 +48,8 @@ use Rattle.curp_law_linear.proofs.ReadsKeepers.{backup_reads, witness_reads}
 use Rattle.curp_law_linear.proofs.ReadsLater.{ReadsOk}
 use Rattle.curp_law_linear.proofs.ReadsMasterSteps.{master_reads}
 use Rattle.curp_law_linear.proofs.ReadsQuiet.{client_reads, frame_reads, looks_same, none_late, none_lives}
-use Rattle.curp_law_logs.specs.Gives.{GivesFit}
-use Rattle.curp_law_names.proofs.Later.{Later}
+use Rattle.curp_law_kept.specs.GivesFit.{GivesFit}
+use Rattle.curp_law_kept.proofs.Later.{Later}
 use Rattle.curp_facts.specs.Predecessors.{Predecessors}
 use Rattle.curp_facts.specs.Migrated.{Migrated}
 use Rattle.curp_law_linear.proofs.MastersInput.{StageInput, Slow, Quickly, stage_input, nothing_pushed}

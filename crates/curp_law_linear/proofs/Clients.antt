@@ -25,11 +25,11 @@ use Rattle.curp_model.specs.World.{World}
 use Rattle.curp_facts.specs.Facts.{Completable, HasLog, IsAdoptedNow, IsGiven, Lists, WasSent, hi_of, lists_of_part, lo_of, IsAmong}
 use Rattle.curp_facts.specs.Kept.{AdoptedLog}
 use Rattle.curp_facts.specs.Known.{Known}
-use Rattle.curp_law_line.specs.Hashes.{Part}
-use Rattle.curp_law_line.specs.Line as line
-use Rattle.curp_law_line.specs.Line.{QuickEarly}
-use Rattle.curp_law_line.specs.Moves.{CompleteFits, FlagFits, flags_mark}
-use Rattle.curp_law_line.specs.OfWorld.{line_of, part_of}
+use Rattle.curp_law_linear.specs.Hashes.{Part}
+use Rattle.curp_law_linear.specs.Line as line
+use Rattle.curp_law_linear.specs.Line.{QuickEarly}
+use Rattle.curp_law_linear.specs.Moves.{CompleteFits, FlagFits, flags_mark}
+use Rattle.curp_law_linear.specs.OfWorld.{line_of, part_of}
 use Rattle.curp_law_linear.specs.Ordered.{Ordered, WorthOk, capture_of, QuickOk, Gated}
 use Rattle.curp_law_linear.proofs.Parts.{entry_part, part_log}
 use Rattle.curp_facts.specs.Migrated.{Migrated, OpStored}
@@ -37,8 +37,8 @@ use Rattle.curp_facts.specs.Predecessors.{Predecessors}
 use Rattle.curp_law_runs.specs.Answered.{AnsweredBy}
 use Rattle.curp_law_linear.proofs.ReadsLater.{looked_capture, quick_capture}
 use Rattle.curp_facts.specs.Nodes.{WasSeen}
-use Rattle.curp_law_line.proofs.QuickBegins.{flag_fits}
-use Rattle.curp_law_names.proofs.Lists.{among_each}
+use Rattle.curp_law_linear.proofs.QuickBegins.{flag_fits}
+use Rattle.curp_law_kept.proofs.NumberedLists.{among_each}
 use Rattle.curp_law_linear.proofs.CutMarks.{hit_capture}
 use Rattle.curp_law_runs.proofs.Pairs.{completable_at, completable_stands, stands_along}
 

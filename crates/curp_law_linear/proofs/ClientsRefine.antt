@@ -27,17 +27,17 @@ use Rattle.curp_facts.specs.ClientNumbers.{IsUncompleted, ClientNumbersOk}
 use Rattle.curp_facts.specs.Facts.{Completable, EntryWas, WasSent, lists_of_part}
 use Rattle.curp_facts.specs.Nodes.{MayCome, WasSeen}
 use Rattle.curp_facts.specs.Said.{WorthSaid}
-use Rattle.curp_law_growth.specs.Deeds.{IsFor}
-use Rattle.curp_law_keepers.specs.ClientEffect.{ByValue, ClientAsks, ClientEffect, ClientSays, CompletionOk, MayComplete, events_after, ByQuick}
-use Rattle.curp_law_keepers.proofs.Numbers.{never_invoked, waiting}
+use Rattle.curp_law_kept.specs.Deeds.{IsFor}
+use Rattle.curp_law_kept.specs.ClientEffect.{ByValue, ClientAsks, ClientEffect, ClientSays, CompletionOk, MayComplete, events_after, ByQuick}
+use Rattle.curp_law_kept.proofs.Numbers.{never_invoked, waiting}
 use Rattle.curp_law_kept.proofs.Clients.{effect}
 use Rattle.curp_law_kept.proofs.Completes.{by_accepts, by_synced}
 use Rattle.curp_facts.specs.Known.{Known}
 use Rattle.curp_law_kept.proofs.Known.{said}
-use Rattle.curp_law_line.specs.Line as line
-use Rattle.curp_law_line.specs.Moves.{Completes, Flags, FlagFits, Invokes}
-use Rattle.curp_law_line.specs.OfWorld.{line_of, told_by}
-use Rattle.curp_law_line.proofs.Given.{LogsOk}
+use Rattle.curp_law_linear.specs.Line as line
+use Rattle.curp_law_linear.specs.Moves.{Completes, Flags, FlagFits, Invokes}
+use Rattle.curp_law_linear.specs.OfWorld.{line_of, told_by}
+use Rattle.curp_law_linear.proofs.Given.{LogsOk}
 use Rattle.curp_law_linear.specs.Ordered.{Ordered, capture_of}
 use Rattle.curp_law_linear.proofs.Clients.{read_fits, update_fits, seen_fits}
 use Rattle.curp_law_linear.proofs.Parts.{line_logs}

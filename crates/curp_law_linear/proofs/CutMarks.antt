@@ -15,9 +15,9 @@ use Rattle.curp_model.specs.Marks.{Cut, Executed, Mark, Place, adoptions, cut_ma
 use Rattle.curp_model.specs.Master.{Captured}
 use Rattle.curp_model.specs.Recovery.{MasterStage, Serving}
 use Rattle.curp_model.specs.World.{World, capture_mark, master_marks, new_captures, op_marks, with_completion}
-use Rattle.curp_law_line.proofs.Lists.{filter_within}
-use Rattle.curp_law_line.proofs.QuicksAdopted.{cut_stays}
-use Rattle.curp_law_line.specs.OfWorld.{cuts}
+use Rattle.curp_law_linear.proofs.Lists.{filter_within}
+use Rattle.curp_law_linear.proofs.QuicksAdopted.{cut_stays}
+use Rattle.curp_law_linear.specs.OfWorld.{cuts}
 use Rattle.curp_law_linear.proofs.ReadsDropped.{replayed_more}
 use Rattle.curp_cmd.proofs.Nodes.{same_node-true}
 use Rattle.curp_law_linear.proofs.ReadsMarks.{ops_only}

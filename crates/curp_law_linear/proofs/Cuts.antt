@@ -15,7 +15,7 @@ use Rattle.curp_facts.specs.Facts.{IsAdoptedNow, Lists, Logged, WasAdopted, list
 use Rattle.curp_facts.specs.Growth.{LogGrows, BackupGrows}
 use Rattle.curp_facts.specs.Known.{Known}
 use Rattle.curp_facts.specs.Names.{Top}
-use Rattle.curp_law_line.specs.OfWorld.{Reign, cut_length, cuts, entries_at, log_of, logged_entries, reign_of, reigns}
+use Rattle.curp_law_linear.specs.OfWorld.{Reign, cut_length, cuts, entries_at, log_of, logged_entries, reign_of, reigns}
 use Rattle.curp_law_linear.specs.Ordered.{CutsFollow, PartCuts, ReignOk, reign_in}
 use Rattle.curp_law_linear.proofs.Left.{Superseded}
 use Rattle.curp_law_linear.proofs.ManagersMoves.{entry_here}
@@ -34,7 +34,7 @@ use Rattle.curp_law_runs.proofs.Adoptions.{adoptions_ok}
 use Rattle.curp_law_runs.proofs.Words.{one_backup}
 use Rattle.curp_msg.specs.declared.body.Body.TheVariants as body
 use Rattle.curp_msg.specs.declared.body.Recover.{Recover}
-use Rattle.curp_law_stays.proofs.Words.{Follows, adopted_later, master_later, backup_later, sent_later}
+use Rattle.curp_law_kept.proofs.Words.{Follows, adopted_later, master_later, backup_later, sent_later}
 
 -- ---- where no recovery is adopted
 

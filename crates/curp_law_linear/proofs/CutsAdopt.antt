@@ -10,7 +10,7 @@ use Rattle.curp_model.specs.Marks.{Cut, Mark, adoptions, cut_mark}
 use Rattle.curp_model.specs.World.{World, op_requests}
 use Rattle.curp_facts.specs.Facts.{Lists, lists_of_part, WasSent}
 use Rattle.curp_facts.specs.Known.{Known}
-use Rattle.curp_law_line.specs.OfWorld.{Reign, cut_length, cuts, log_of, reign_of, reigns}
+use Rattle.curp_law_linear.specs.OfWorld.{Reign, cut_length, cuts, log_of, reign_of, reigns}
 use Rattle.curp_law_linear.specs.Ordered.{CutsFollow, PartCuts, ReignOk, StoredFrom, reign_in}
 use Rattle.curp_law_linear.specs.Refined.{Refines}
 use Rattle.curp_law_linear.proofs.CutMarks.{cuts_adopted}
@@ -24,7 +24,7 @@ use Rattle.curp_model.specs.Named.{IsBackup}
 use Rattle.curp_msg.specs.Moved.{says}
 use Rattle.curp_msg.specs.declared.body.Body.TheVariants as body
 use Rattle.curp_msg.specs.declared.body.Recover.{Recover}
-use Rattle.curp_law_stays.proofs.Words.{Follows, sent_later}
+use Rattle.curp_law_kept.proofs.Words.{Follows, sent_later}
 
 -- one more adoption, one more master
 map_push : {A B : Type 0} (f : A → B) (xs : List A) (x : A) → map f (xs ++ x ∷ []) ≡ map f xs ++ f x ∷ []

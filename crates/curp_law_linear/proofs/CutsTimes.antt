@@ -11,19 +11,19 @@ use Rattle.curp_msg.specs.declared.body.Body.TheVariants as body
 use Rattle.curp_facts.specs.Known.{Known}
 use Rattle.curp_facts.specs.Predecessors.{Predecessors}
 use Rattle.curp_law_linear.specs.Ordered.{Ordered, CutsTimed}
-use Rattle.curp_law_stays.proofs.Words.{Follows, sent_later}
+use Rattle.curp_law_kept.proofs.Words.{Follows, sent_later}
 use Rattle.curp_law_linear.specs.Refined.{Refines}
 use Rattle.curp_cmd.specs.declared.command.RequestId.{RequestId}
 use Rattle.curp_cmd.specs.declared.command.Command.{Command}
-use Rattle.curp_law_line.specs.Line.{WasInvoked, LineState, CutEarly}
+use Rattle.curp_law_linear.specs.Line.{WasInvoked, LineState, CutEarly}
 use Rattle.curp_base.proofs.Lists.{prefix_at}
 use Rattle.curp_model.specs.Marks.{Mark}
 use Rattle.curp_msg.specs.declared.body.Recover.{Recover}
 use Rattle.curp_cmd.specs.Node.{manager_node}
-use Rattle.curp_law_line.specs.OfWorld.{line_of, cuts}
+use Rattle.curp_law_linear.specs.OfWorld.{line_of, cuts}
 use Rattle.curp_facts.specs.Said.{ProbedSaid}
 use Rattle.curp_law_linear.proofs.Cuts.{cut_adoption}
-use Rattle.curp_law_line.proofs.QuickRuns.{cut_early_on}
+use Rattle.curp_law_linear.proofs.QuickRuns.{cut_early_on}
 use Rattle.curp_facts.specs.Kept.{AdoptionOk}
 use Rattle.curp_order.specs.declared.Event.TheVariants.{Invoke}
 use Rattle.curp_law_linear.proofs.ReadsPassed.{NoneLives}

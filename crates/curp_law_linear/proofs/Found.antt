@@ -5,9 +5,9 @@ use Rattle.curp_base.specs.Words.{At}
 use Rattle.curp_cmd.specs.declared.entry.Entry.{Entry}
 use Rattle.curp_cmd.specs.declared.entry.Entry.TheVariants.{Give, Take}
 use Rattle.curp_cmd.specs.declared.migration.Package.{Package}
-use Rattle.curp_law_line.specs.Hashes.{is_give, is_take}
+use Rattle.curp_law_linear.specs.Hashes.{is_give, is_take}
 use Rattle.curp_base.proofs.Numbered.{any_at}
-use Rattle.curp_law_line.proofs.Entries.{give_entry, take_entry}
+use Rattle.curp_law_linear.proofs.Entries.{give_entry, take_entry}
 
 -- a take that stands in a log, by the test
 pub found_take : (number : ℕ) (log : List Entry) → list_any (is_take number) log ≡ true → (j : ℕ) × (p : Package) × At log j (Take number p)

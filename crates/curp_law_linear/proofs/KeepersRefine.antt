@@ -10,13 +10,13 @@ use Rattle.curp_order.specs.declared.Event.{Event}
 use Rattle.curp_model.specs.Backup.{BackupState, backup_input}
 use Rattle.curp_model.specs.Witness.{WitnessState, witness_input}
 use Rattle.curp_model.specs.World.{World, kept, messages, with_backup, with_completion, with_witness}
-use Rattle.curp_law_keepers.specs.BackupEffect.{BackupAnswers, BackupEffect, BackupSays}
-use Rattle.curp_law_keepers.specs.WitnessEffect.{WitnessAnswers, WitnessEffect, WitnessSays}
-use Rattle.curp_law_keepers.proofs.Backups.{backup_effect}
-use Rattle.curp_law_keepers.proofs.Witnesses.{witness_effect}
+use Rattle.curp_law_kept.specs.BackupEffect.{BackupAnswers, BackupEffect, BackupSays}
+use Rattle.curp_law_kept.specs.WitnessEffect.{WitnessAnswers, WitnessEffect, WitnessSays}
+use Rattle.curp_law_kept.proofs.BackupEffects.{backup_effect}
+use Rattle.curp_law_kept.proofs.WitnessEffects.{witness_effect}
 use Rattle.curp_law_kept.proofs.Cases.{RestsIn}
 use Rattle.curp_law_kept.proofs.Worlds.{same_history}
-use Rattle.curp_law_line.specs.OfWorld.{told_by}
+use Rattle.curp_law_linear.specs.OfWorld.{told_by}
 use Rattle.curp_law_linear.specs.Refined.{RefinesQuiet}
 use Rattle.curp_law_linear.proofs.Quiet.{no_move, tell_nothing}
 use Rattle.curp_law_linear.proofs.CutMarks.{cuts_after}

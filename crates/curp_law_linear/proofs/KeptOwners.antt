@@ -17,18 +17,18 @@ use Rattle.curp_facts.specs.Facts.{IsAdoptedNow, Logged, hi_of, lo_of}
 use Rattle.curp_facts.specs.Kept.{AdoptedLog, HashesOwned, OnItsWay, OwnedByOne}
 use Rattle.curp_facts.specs.Said.{StoredEntry}
 use Rattle.curp_facts.specs.Known.{Known}
-use Rattle.curp_law_line.specs.Hashes.{is_give}
-use Rattle.curp_law_line.specs.OfWorld.{part_of}
-use Rattle.curp_law_line.proofs.Entries.{take_of, give_entry}
-use Rattle.curp_law_line.proofs.Lists.{in_any}
+use Rattle.curp_law_linear.specs.Hashes.{is_give}
+use Rattle.curp_law_linear.specs.OfWorld.{part_of}
+use Rattle.curp_law_linear.proofs.Entries.{take_of, give_entry}
+use Rattle.curp_law_linear.proofs.Lists.{in_any}
 use Rattle.curp_base.proofs.Numbered.{any_at}
-use Rattle.curp_law_line.proofs.Spans.{owned_after, takes, with_range_has}
+use Rattle.curp_law_linear.proofs.Spans.{owned_after, takes, with_range_has}
 use Rattle.curp_law_linear.specs.Ordered.{Ordered, moved_number}
 use Rattle.curp_law_linear.specs.Serves.{OpeningServes}
 use Rattle.curp_law_linear.proofs.AdoptMigrations.{moving_give, moving_take}
 use Rattle.curp_law_linear.proofs.AdoptedLogs.{adopted_log}
 use Rattle.curp_law_linear.proofs.MastersRise.{adopted_ok, take_given}
-use Rattle.curp_law_trip.proofs.OpeningOwners.{opening_owner}
+use Rattle.curp_law_steps.proofs.OpeningOwners.{opening_owner}
 use Rattle.curp_law_linear.proofs.Parts.{entry_part, part_log}
 use Rattle.curp_facts.specs.Predecessors.{Predecessors}
 use Rattle.curp_facts.specs.Migrated.{Migrated, TakeStored}

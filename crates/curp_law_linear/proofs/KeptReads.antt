@@ -13,7 +13,7 @@ use Rattle.curp_facts.specs.Facts.{Lists, WasSent}
 use Rattle.curp_facts.specs.Kept.{CapturesOk, PassedBy, ValueMarked, ValuesMarked, lists_of_master}
 use Rattle.curp_facts.specs.Nodes.{ServingOk}
 use Rattle.curp_facts.specs.Known.{Known}
-use Rattle.curp_law_line.specs.Line.{LookGives}
+use Rattle.curp_law_linear.specs.Line.{LookGives}
 use Rattle.curp_law_linear.specs.Ordered.{CaptureOk, Ordered, WorthOk}
 
 -- a look that gives a value has its mark

@@ -16,22 +16,22 @@ use Rattle.curp_facts.specs.Entries.{EntryOk, LogOk}
 use Rattle.curp_facts.specs.Facts.{hi_of, lo_of}
 use Rattle.curp_facts.specs.Kept.{OnItsWay, StoresTogether}
 use Rattle.curp_facts.specs.Known.{Known}
-use Rattle.curp_law_line.specs.Hashes.{is_give}
-use Rattle.curp_law_line.specs.Moves.{IsOnItsWay}
-use Rattle.curp_law_line.specs.OfWorld.{line_of, moving_of, part_of}
-use Rattle.curp_law_line.proofs.Discharged.{pure}
-use Rattle.curp_law_line.proofs.Lists.{take_split}
+use Rattle.curp_law_linear.specs.Hashes.{is_give}
+use Rattle.curp_law_linear.specs.Moves.{IsOnItsWay}
+use Rattle.curp_law_linear.specs.OfWorld.{line_of, moving_of, part_of}
+use Rattle.curp_law_linear.proofs.Discharged.{pure}
+use Rattle.curp_law_linear.proofs.Lists.{take_split}
 use Rattle.curp_base.proofs.Numbered.{any_at}
-use Rattle.curp_law_line.proofs.Stores.{carried_store, owned_store}
+use Rattle.curp_law_linear.proofs.Stores.{carried_store, owned_store}
 use Rattle.curp_law_linear.specs.Ordered.{Ordered}
 use Rattle.curp_law_linear.proofs.MastersRise.{TakeOfWork, adopted_ok, standing, take_of_work}
 use Rattle.curp_law_linear.proofs.Parts.{entry_part, line_logs, part_log}
 use Rattle.curp_law_linear.proofs.TakenRanges.{covered_before, quiet_behind}
-use Rattle.curp_law_logs.proofs.Packages.{take_package}
+use Rattle.curp_law_kept.proofs.Packages.{take_package}
 use Rattle.curp_facts.specs.Predecessors.{Predecessors}
 use Rattle.curp_facts.specs.Migrated.{Migrated}
 use Rattle.curp_facts.specs.Routes.{InWork, Routes}
-use Rattle.curp_law_line.proofs.Entries.{give_entry}
+use Rattle.curp_law_linear.proofs.Entries.{give_entry}
 
 module _ {w : World} (known : Known w) (chain : Predecessors w) (routes : Routes w) (migrated : Migrated w) (ordered : Ordered w) where
   -- the package of a hash on its way is one that the machine carries

@@ -6,7 +6,7 @@ use Rattle.curp_order.specs.Order.{IsHistory, IsOrder}
 use Rattle.curp_model.specs.World.{order, step, world}
 use Rattle.curp_facts.specs.Kept.{Kept, LateRepliesAgree, ValuesMarked, QuicksMarked}
 use Rattle.curp_msg.specs.Script.{IsRun, IsStep}
-use Rattle.curp_law_line.specs.Line.{StandsIn}
+use Rattle.curp_law_linear.specs.Line.{StandsIn}
 use Rattle.curp_law_linear.specs.Grows.{completed_in_order}
 use Rattle.curp_law_linear.proofs.AdoptedLogs.{serves_all}
 use Rattle.curp_law_linear.proofs.KeptReads.{values_kept}

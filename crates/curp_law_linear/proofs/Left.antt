@@ -9,10 +9,10 @@ use Rattle.curp_model.specs.Manager.{Shape}
 use Rattle.curp_model.specs.Marks.{Mark}
 use Rattle.curp_model.specs.Ranges.{opening_range}
 use Rattle.curp_model.specs.World.{World}
-use Rattle.curp_law_line.specs.Hashes.{Part}
-use Rattle.curp_law_line.specs.Line.{Left}
-use Rattle.curp_law_line.specs.Moves.{longer_left}
-use Rattle.curp_law_line.specs.OfWorld.{Reign, cut_length, cuts, entries_at, left_at, left_by, left_of, log_of, reigns}
+use Rattle.curp_law_linear.specs.Hashes.{Part}
+use Rattle.curp_law_linear.specs.Line.{Left}
+use Rattle.curp_law_linear.specs.Moves.{longer_left}
+use Rattle.curp_law_linear.specs.OfWorld.{Reign, cut_length, cuts, entries_at, left_at, left_by, left_of, log_of, reigns}
 
 -- a master of the partition, which an adoption superseded
 pub record Superseded (w : World) (part number : ℕ) (r : Reign) (m : Mark) : Type 0 where

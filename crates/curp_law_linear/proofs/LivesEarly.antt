@@ -2,7 +2,7 @@
 use Rattle.curp_model.specs.World.{World, messages, opening}
 use Rattle.curp_facts.specs.Known.{Known}
 use Rattle.curp_facts.specs.Predecessors.{Predecessors}
-use Rattle.curp_law_names.proofs.Later.{Later}
+use Rattle.curp_law_kept.proofs.Later.{Later}
 use Rattle.curp_msg.specs.declared.message.Message.{Message}
 use Rattle.curp_cmd.specs.declared.node.NodeId.{NodeId}
 use Rattle.curp_base.specs.Words.{Each, At, numbered}
@@ -17,16 +17,16 @@ use Rattle.curp_cmd.specs.Node.{manager_node, client_node, backup_node, witness_
 use Rattle.curp_facts.specs.Names.{RecoverOrderOk, AdoptedOk, IsOf}
 use Rattle.curp_facts.specs.Kept.{AdoptionOk, LivesEarly, adopted_by}
 use Rattle.curp_law_runs.proofs.Adoptions.{adoptions_ok}
-use Rattle.curp_law_names.proofs.Lists.{among_each}
+use Rattle.curp_law_kept.proofs.NumberedLists.{among_each}
 use Rattle.curp_facts.specs.Growth.{Grows}
 use Rattle.curp_model.specs.Client.{client_input}
 use Rattle.curp_model.specs.Backup.{backup_input}
 use Rattle.curp_model.specs.Recovery.{master_input}
 use Rattle.curp_model.specs.Manager.{manager_input}
-use Rattle.curp_law_keepers.specs.BackupEffect.{BackupSays}
-use Rattle.curp_law_keepers.specs.WitnessEffect.{WitnessSays}
-use Rattle.curp_law_keepers.proofs.Backups.{backup_effect}
-use Rattle.curp_law_keepers.proofs.Witnesses.{witness_effect}
+use Rattle.curp_law_kept.specs.BackupEffect.{BackupSays}
+use Rattle.curp_law_kept.specs.WitnessEffect.{WitnessSays}
+use Rattle.curp_law_kept.proofs.BackupEffects.{backup_effect}
+use Rattle.curp_law_kept.proofs.WitnessEffects.{witness_effect}
 use Rattle.curp_law_linear.proofs.ReadsKeepers.{frozen_silent}
 use Rattle.curp_base.proofs.Numbered.{numbered_set_same}
 use Rattle.curp_law_kept.proofs.Followed.{master_step}

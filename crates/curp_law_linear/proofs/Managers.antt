@@ -7,11 +7,11 @@ use Rattle.curp_model.specs.Manager.{Attempted, ManagerState, Migration}
 use Rattle.curp_model.specs.World.{World, completion, with_adoption, with_completion}
 use Rattle.curp_law_kept.specs.ManagerEffect.{ManagerEffect}
 use Rattle.curp_facts.specs.Known.{Known}
-use Rattle.curp_law_line.specs.Hashes.{Part}
-use Rattle.curp_law_line.specs.Line.{Left}
-use Rattle.curp_law_line.specs.Moves.{GivenDone, Migrates}
-use Rattle.curp_law_line.specs.OfWorld.{cuts, left_of, line_of, moving_of}
-use Rattle.curp_law_line.proofs.Given.{LogsOk}
+use Rattle.curp_law_linear.specs.Hashes.{Part}
+use Rattle.curp_law_linear.specs.Line.{Left}
+use Rattle.curp_law_linear.specs.Moves.{GivenDone, Migrates}
+use Rattle.curp_law_linear.specs.OfWorld.{cuts, left_of, line_of, moving_of}
+use Rattle.curp_law_linear.proofs.Given.{LogsOk}
 use Rattle.curp_law_linear.specs.Ordered.{Ordered}
 use Rattle.curp_law_linear.specs.Refined.{RefinesQuiet}
 use Rattle.curp_law_linear.proofs.Left.{left_stays}
@@ -20,8 +20,8 @@ use Rattle.curp_law_linear.proofs.ManagersLine.{entries_grown, same_seats, same_
 use Rattle.curp_law_linear.proofs.ManagersMoves.{given_fits, migrate_fits}
 use Rattle.curp_law_linear.proofs.Parts.{line_logs}
 use Rattle.curp_facts.specs.Names.{Names}
-use Rattle.curp_law_names.proofs.Later.{Later}
-use Rattle.curp_law_names.proofs.Steps.{manager_moved, moved_messages, sent_now}
+use Rattle.curp_law_kept.proofs.Later.{Later}
+use Rattle.curp_law_kept.proofs.ManagerWorlds.{manager_moved, moved_messages, sent_now}
 use Rattle.curp_facts.specs.Predecessors.{Predecessors}
 use Rattle.curp_facts.specs.Migrated.{Migrated}
 use Rattle.curp_facts.specs.Routes.{Routes}

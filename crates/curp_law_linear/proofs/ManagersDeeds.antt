@@ -21,12 +21,12 @@ use Rattle.curp_model.specs.Manager.{Attempted, Doing, ManagerState, Migration, 
 use Rattle.curp_model.specs.Ranges.{Range, range_of}
 use Rattle.curp_model.specs.World.{World}
 use Rattle.curp_facts.specs.Facts.{IsAdoptedNow, IsAmong, WasSent, lists_of_part}
-use Rattle.curp_law_growth.specs.Deeds.{IsFor}
-use Rattle.curp_law_line.specs.OfWorld.{moving_of}
+use Rattle.curp_law_kept.specs.Deeds.{IsFor}
+use Rattle.curp_law_linear.specs.OfWorld.{moving_of}
 use Rattle.curp_law_linear.proofs.ManagersLine.{seat}
 use Rattle.curp_facts.specs.Names.{Names, RecoveringOk}
-use Rattle.curp_law_names.proofs.Keeps.{entry_now, entry_numbered, numbered_now}
-use Rattle.curp_law_names.proofs.Lists.{there_among}
+use Rattle.curp_law_kept.proofs.Keeps.{entry_now, entry_numbered, numbered_now}
+use Rattle.curp_law_kept.proofs.NumberedLists.{there_among}
 use Rattle.curp_base.proofs.Lists.{at_mapped}
 use Rattle.curp_model.proofs.Managers.{counters_stay}
 

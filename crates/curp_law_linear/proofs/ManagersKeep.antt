@@ -6,7 +6,7 @@ use Rattle.curp_order.specs.declared.Event.{Event}
 use Rattle.curp_model.specs.Manager.{Attempted, adoption, manager_input}
 use Rattle.curp_model.specs.World.{World}
 use Rattle.curp_facts.specs.Growth.{Grows}
-use Rattle.curp_law_growth.specs.Deeds.{IsFor}
+use Rattle.curp_law_kept.specs.Deeds.{IsFor}
 use Rattle.curp_facts.specs.Known.{Known}
 use Rattle.curp_law_kept.proofs.ManagersDo.{manager_does}
 use Rattle.curp_law_kept.proofs.ManagersReady.{manager_follows}
@@ -18,12 +18,12 @@ use Rattle.curp_law_linear.proofs.ManagersRefine.{AdoptsOnly, ManagerRefines, ma
 use Rattle.curp_law_linear.proofs.ReadsAdoption.{adoption_step_reads}
 use Rattle.curp_law_linear.proofs.ReadsLater.{ReadsOk}
 use Rattle.curp_law_linear.proofs.ReadsManagerSteps.{manager_step_reads}
-use Rattle.curp_law_names.proofs.Later.{Later}
-use Rattle.curp_law_names.proofs.Steps.{manager_moved, moved_messages}
+use Rattle.curp_law_kept.proofs.Later.{Later}
+use Rattle.curp_law_kept.proofs.ManagerWorlds.{manager_moved, moved_messages}
 use Rattle.curp_facts.specs.Predecessors.{Predecessors}
 use Rattle.curp_facts.specs.Migrated.{Migrated}
 use Rattle.curp_facts.specs.Routes.{Routes}
-use Rattle.curp_law_stays.proofs.Words.{Follows}
+use Rattle.curp_law_kept.proofs.Words.{Follows}
 
 module _ {w : World} (known : Known w) (chain : Predecessors w) (routes : Routes w) (migrated : Migrated w) (ordered : Ordered w)
     (events : List Event) (none : events ≡ []) (given : Input) (for : IsFor w manager_node given) where

@@ -15,8 +15,8 @@ use Rattle.curp_model.specs.Recovery.{Fresh, MasterStage}
 use Rattle.curp_model.specs.World.{World, grown, messages}
 use Rattle.curp_facts.specs.Facts.{IsAmong, WasSent}
 use Rattle.curp_law_kept.specs.ManagerEffect.{Uttered}
-use Rattle.curp_law_line.specs.Hashes.{Part}
-use Rattle.curp_law_line.specs.OfWorld.{entries_at, line_of, told_by}
+use Rattle.curp_law_linear.specs.Hashes.{Part}
+use Rattle.curp_law_linear.specs.OfWorld.{entries_at, line_of, told_by}
 use Rattle.curp_law_linear.proofs.Same.{flat_append}
 use Rattle.curp_facts.specs.Names.{ManagerSays, Names}
 

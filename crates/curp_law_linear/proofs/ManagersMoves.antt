@@ -22,9 +22,9 @@ use Rattle.curp_facts.specs.Reach.{Reach}
 use Rattle.curp_facts.specs.Said.{IsGiveFrom, StoredEntry}
 use Rattle.curp_facts.specs.Known.{Known}
 use Rattle.curp_law_kept.proofs.Known.{said}
-use Rattle.curp_law_line.specs.Hashes.{Part, is_give, is_take}
-use Rattle.curp_law_line.specs.Moves.{GivenFits, MigrateFits}
-use Rattle.curp_law_line.specs.OfWorld.{line_of, moving_of, part_of}
+use Rattle.curp_law_linear.specs.Hashes.{Part, is_give, is_take}
+use Rattle.curp_law_linear.specs.Moves.{GivenFits, MigrateFits}
+use Rattle.curp_law_linear.specs.OfWorld.{line_of, moving_of, part_of}
 use Rattle.curp_law_linear.specs.Ordered.{moved_number}
 use Rattle.curp_law_linear.proofs.Parts.{adopted_or_none, entry_part, part_entry, part_log}
 use Rattle.curp_law_runs.specs.Along.{HoldsOn}

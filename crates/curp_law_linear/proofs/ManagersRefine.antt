@@ -9,11 +9,11 @@ use Rattle.curp_msg.specs.declared.config.PartConfig.{PartConfig}
 use Rattle.curp_model.specs.Manager.{Attempted, ManagerState, adoption, manager_input}
 use Rattle.curp_model.specs.Recovery.{Recovering, RecoveryState, Replayed, Waiting}
 use Rattle.curp_model.specs.World.{World}
-use Rattle.curp_law_growth.specs.Deeds.{IsFor}
+use Rattle.curp_law_kept.specs.Deeds.{IsFor}
 use Rattle.curp_law_kept.specs.ManagerEffect.{ManagerEffect}
 use Rattle.curp_facts.specs.Known.{Known}
 use Rattle.curp_law_kept.proofs.ManagersDo.{manager_does}
-use Rattle.curp_law_line.specs.Moves.{Adopts, LineMove}
+use Rattle.curp_law_linear.specs.Moves.{Adopts, LineMove}
 use Rattle.curp_law_linear.specs.Ordered.{Ordered}
 use Rattle.curp_law_linear.specs.Refined.{NoAdoption, Refines, EarlyAfter}
 use Rattle.curp_law_linear.proofs.Adopt.{adopt_fits, adopt_leads}
@@ -25,16 +25,16 @@ use Rattle.curp_law_linear.proofs.Parts.{line_logs}
 use Rattle.curp_law_linear.proofs.ReadsAdoption.{WaitsFor}
 use Rattle.curp_law_linear.proofs.ReadsManager.{AdoptsThat}
 use Rattle.curp_facts.specs.Names.{Names}
-use Rattle.curp_law_names.proofs.Later.{Later}
-use Rattle.curp_law_names.proofs.Steps.{manager_moved}
+use Rattle.curp_law_kept.proofs.Later.{Later}
+use Rattle.curp_law_kept.proofs.ManagerWorlds.{manager_moved}
 use Rattle.curp_facts.specs.Predecessors.{Predecessors}
 use Rattle.curp_facts.specs.Migrated.{Migrated}
 use Rattle.curp_facts.specs.Routes.{Routes}
-use Rattle.curp_law_line.specs.Line.{CutEarly, LineState}
-use Rattle.curp_law_line.specs.OfWorld.{line_of}
+use Rattle.curp_law_linear.specs.Line.{CutEarly, LineState}
+use Rattle.curp_law_linear.specs.OfWorld.{line_of}
 use Rattle.curp_model.specs.Marks.{adoptions}
-use Rattle.curp_law_line.proofs.QuickBegins.{cut_early_begins}
-use Rattle.curp_law_stays.proofs.Words.{one_state}
+use Rattle.curp_law_linear.proofs.QuickBegins.{cut_early_begins}
+use Rattle.curp_law_kept.proofs.Words.{one_state}
 
 -- the moves adopt what the manager adopts, if it does, and as much of its log as was recovered
 abbrev pub AdoptsOnly : World → Option Attempted → List LineMove → Type 0

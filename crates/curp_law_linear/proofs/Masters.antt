@@ -26,12 +26,12 @@ use Rattle.curp_facts.specs.Nodes.{CapturedOk, ServingOk}
 use Rattle.curp_facts.specs.Known.{Known}
 use Rattle.curp_facts.specs.Names.{IsOf}
 use Rattle.curp_law_kept.proofs.MastersMoves.{MasterStep}
-use Rattle.curp_law_line.specs.Hashes.{Part}
-use Rattle.curp_law_line.specs.Line.{Left, LineState}
-use Rattle.curp_law_line.specs.Moves.{Strays, longer_left, relogged}
-use Rattle.curp_law_line.specs.OfWorld.{Reign, entries_at, left_of, line_of, logged_entries, moving_of, part_of, told_by}
-use Rattle.curp_law_line.proofs.Given.{LogsOk}
-use Rattle.curp_law_line.proofs.Lists.{some_same}
+use Rattle.curp_law_linear.specs.Hashes.{Part}
+use Rattle.curp_law_linear.specs.Line.{Left, LineState}
+use Rattle.curp_law_linear.specs.Moves.{Strays, longer_left, relogged}
+use Rattle.curp_law_linear.specs.OfWorld.{Reign, entries_at, left_of, line_of, logged_entries, moving_of, part_of, told_by}
+use Rattle.curp_law_linear.proofs.Given.{LogsOk}
+use Rattle.curp_law_linear.proofs.Lists.{some_same}
 use Rattle.curp_law_linear.specs.Ordered.{MigrationsRise, Ordered}
 use Rattle.curp_law_linear.specs.Refined.{RefinesQuiet}
 use Rattle.curp_law_linear.proofs.CutMarks.{cuts_marked}
@@ -47,7 +47,7 @@ use Rattle.curp_law_linear.proofs.MastersStand.{SameLog, begins_stands, fresh_st
 use Rattle.curp_law_linear.proofs.MastersTold.{TakeStands, all_tell, takes_stand, tell_all}
 use Rattle.curp_law_linear.proofs.Parts.{entry_part, line_logs, part_log}
 use Rattle.curp_law_linear.proofs.Same.{flat_append}
-use Rattle.curp_law_logs.specs.Gives.{GivesFit}
+use Rattle.curp_law_kept.specs.GivesFit.{GivesFit}
 use Rattle.curp_facts.specs.Predecessors.{Predecessors}
 use Rattle.curp_facts.specs.Migrated.{Migrated}
 use Rattle.curp_facts.specs.Routes.{Routes}

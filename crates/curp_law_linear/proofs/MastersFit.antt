@@ -32,19 +32,19 @@ use Rattle.curp_facts.specs.Kept.{AdoptedLog}
 use Rattle.curp_cmd.specs.Store.{NamesKey}
 use Rattle.curp_facts.specs.Known.{Known}
 use Rattle.curp_law_kept.proofs.Known.{said}
-use Rattle.curp_law_line.specs.Hashes.{Part, is_give, is_take}
-use Rattle.curp_law_line.specs.Line.{Ungiven}
-use Rattle.curp_law_line.specs.Moves.{IsOnItsWay, PushExpire, PushExpireFits, PushGive, PushGiveFits, PushOp, PushOpFits, PushTake, PushTakeFits, taken_by}
-use Rattle.curp_law_line.specs.OfWorld.{line_of, moving_of, part_of, told_by}
-use Rattle.curp_law_line.proofs.Lists.{take_split}
+use Rattle.curp_law_linear.specs.Hashes.{Part, is_give, is_take}
+use Rattle.curp_law_linear.specs.Line.{Ungiven}
+use Rattle.curp_law_linear.specs.Moves.{IsOnItsWay, PushExpire, PushExpireFits, PushGive, PushGiveFits, PushOp, PushOpFits, PushTake, PushTakeFits, taken_by}
+use Rattle.curp_law_linear.specs.OfWorld.{line_of, moving_of, part_of, told_by}
+use Rattle.curp_law_linear.proofs.Lists.{take_split}
 use Rattle.curp_law_linear.specs.Ordered.{Ordered, moved_number}
 use Rattle.curp_law_linear.proofs.MastersLog.{here_at, line_at, part_at, part_cases, part_other}
 use Rattle.curp_law_linear.proofs.MastersRise.{Brought, adopted_ok, brought, new_rise, new_take, standing, take_of_work, ungiven, untaken}
 use Rattle.curp_law_linear.proofs.Parts.{entry_part, part_log}
 use Rattle.curp_law_linear.proofs.TakenRanges.{covered_before, quiet_behind}
-use Rattle.curp_law_logs.proofs.Logs.{log_back}
-use Rattle.curp_law_logs.proofs.Packages.{package_same, package_self, take_package}
-use Rattle.curp_law_logs.proofs.Ranges.{owns_touched}
+use Rattle.curp_law_kept.proofs.Logs.{log_back}
+use Rattle.curp_law_kept.proofs.Packages.{package_same, package_self, take_package}
+use Rattle.curp_law_kept.proofs.Ranges.{owns_touched}
 use Rattle.curp_facts.specs.Predecessors.{Predecessors}
 use Rattle.curp_facts.specs.Migrated.{Migrated, TakeStored}
 use Rattle.curp_facts.specs.Routes.{Routes}

@@ -11,20 +11,20 @@ use Rattle.curp_facts.specs.Entries.{LogOk}
 use Rattle.curp_facts.specs.Facts.{hi_of, lo_of}
 use Rattle.curp_facts.specs.Kept.{AdoptedLog}
 use Rattle.curp_facts.specs.Known.{Known}
-use Rattle.curp_law_line.specs.Hashes.{Part}
-use Rattle.curp_law_line.specs.Line.{LineState}
-use Rattle.curp_law_line.specs.Moves.{AllFit, Fits, LineMove, after, all_after, pushed, relogged}
-use Rattle.curp_law_line.specs.OfWorld.{left_of, line_of, moving_of, part_of}
-use Rattle.curp_law_line.proofs.Discharged.{IsPlainLog, logs_ok}
-use Rattle.curp_law_line.proofs.Given.{LogsOk}
+use Rattle.curp_law_linear.specs.Hashes.{Part}
+use Rattle.curp_law_linear.specs.Line.{LineState}
+use Rattle.curp_law_linear.specs.Moves.{AllFit, Fits, LineMove, after, all_after, pushed, relogged}
+use Rattle.curp_law_linear.specs.OfWorld.{left_of, line_of, moving_of, part_of}
+use Rattle.curp_law_linear.proofs.Discharged.{IsPlainLog, logs_ok}
+use Rattle.curp_law_linear.proofs.Given.{LogsOk}
 use Rattle.curp_base.proofs.Numbered.{numbered_set_cases, numbered_set_other, numbered_set_same}
 use Rattle.curp_law_linear.specs.Refined.{NoAdoption}
 use Rattle.curp_law_linear.specs.Ordered.{MigrationsRise, Ordered}
 use Rattle.curp_law_linear.proofs.Parts.{entry_part, gives_move, part_entry, plain, rise_alone, takes_move}
-use Rattle.curp_law_logs.specs.Gives.{GivesFit}
-use Rattle.curp_law_logs.specs.Migrations.{give_number, take_number}
-use Rattle.curp_law_logs.proofs.Gives.{gives_fit_prefix}
-use Rattle.curp_law_logs.proofs.Logs.{log_prefix}
+use Rattle.curp_law_kept.specs.GivesFit.{GivesFit}
+use Rattle.curp_law_kept.specs.Migrations.{give_number, take_number}
+use Rattle.curp_law_kept.proofs.GivesFit.{gives_fit_prefix}
+use Rattle.curp_law_kept.proofs.Logs.{log_prefix}
 use Rattle.curp_facts.specs.Predecessors.{Predecessors}
 use Rattle.curp_law_runs.proofs.Logs.{range_ordered}
 use Rattle.curp_facts.specs.Migrated.{Migrated}

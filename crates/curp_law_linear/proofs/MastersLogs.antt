@@ -16,11 +16,11 @@ use Rattle.curp_facts.specs.Facts.{IsAdoptedNow, Logged, hi_of, lists_of_part, l
 use Rattle.curp_facts.specs.Kept.{AdoptedLog}
 use Rattle.curp_facts.specs.Known.{Known}
 use Rattle.curp_law_kept.proofs.MastersMoves.{MasterStep}
-use Rattle.curp_law_line.proofs.Lists.{some_same}
+use Rattle.curp_law_linear.proofs.Lists.{some_same}
 use Rattle.curp_law_linear.specs.Ordered.{AdoptedLogOk, MigrationsRise, Ordered}
 use Rattle.curp_law_linear.proofs.Masters.{serving_fit, serving_rise}
 use Rattle.curp_law_linear.proofs.MastersStand.{SameLog, begins_stands, fresh_stands, recovering_stands}
-use Rattle.curp_law_logs.specs.Gives.{GivesFit}
+use Rattle.curp_law_kept.specs.GivesFit.{GivesFit}
 use Rattle.curp_facts.specs.Predecessors.{Predecessors}
 use Rattle.curp_facts.specs.Migrated.{Migrated}
 use Rattle.curp_facts.specs.Routes.{Routes}

@@ -11,8 +11,8 @@ use Rattle.curp_model.specs.World.{World, op_marks}
 use Rattle.curp_facts.specs.Entries.{LogOk}
 use Rattle.curp_facts.specs.Kept.{AdoptedLog}
 use Rattle.curp_facts.specs.Known.{Known}
-use Rattle.curp_law_line.specs.Line.{LineState}
-use Rattle.curp_law_line.specs.Moves.{ExpirePush, Fits, GivePush, LineMove, OpPush, TakePush, after, pushed}
+use Rattle.curp_law_linear.specs.Line.{LineState}
+use Rattle.curp_law_linear.specs.Moves.{ExpirePush, Fits, GivePush, LineMove, OpPush, TakePush, after, pushed}
 use Rattle.curp_law_linear.specs.Refined.{NoAdoption}
 use Rattle.curp_law_linear.specs.Ordered.{Ordered}
 use Rattle.curp_law_linear.proofs.MastersFit.{expire_fits, expire_push, give_moves, give_push, op_fits, op_push, take_moves, take_push}

@@ -25,17 +25,17 @@ use Rattle.curp_facts.specs.Reach.{Reach}
 use Rattle.curp_facts.specs.Said.{StoredEntry}
 use Rattle.curp_facts.specs.Known.{Known}
 use Rattle.curp_law_kept.proofs.Known.{said}
-use Rattle.curp_law_line.specs.Hashes.{Part, has_take, is_give, is_take, owns}
-use Rattle.curp_law_line.specs.OfWorld.{line_of, moving_of, part_of}
-use Rattle.curp_law_line.proofs.Lists.{some_same}
+use Rattle.curp_law_linear.specs.Hashes.{Part, has_take, is_give, is_take, owns}
+use Rattle.curp_law_linear.specs.OfWorld.{line_of, moving_of, part_of}
+use Rattle.curp_law_linear.proofs.Lists.{some_same}
 use Rattle.curp_law_linear.specs.Ordered.{MigrationsRise, Ordered, moved_number}
 use Rattle.curp_law_linear.proofs.Clients.{entry_of}
 use Rattle.curp_law_linear.proofs.Parts.{adopted_or_none, entry_part, part_entry, part_log}
-use Rattle.curp_law_logs.specs.Gives.{GiveFits, GivesFit, PairsAscend, PairsWithin}
-use Rattle.curp_law_logs.specs.Migrations.{MovesNothing, give_number, take_number}
-use Rattle.curp_law_logs.proofs.Gives.{gives_fit_append, gives_fit_from, package_ascends, package_within}
-use Rattle.curp_law_logs.proofs.Migrations.{owned_more}
-use Rattle.curp_law_logs.proofs.Packages.{take_package}
+use Rattle.curp_law_kept.specs.GivesFit.{GiveFits, GivesFit, PairsAscend, PairsWithin}
+use Rattle.curp_law_kept.specs.Migrations.{MovesNothing, give_number, take_number}
+use Rattle.curp_law_kept.proofs.GivesFit.{gives_fit_append, gives_fit_from, package_ascends, package_within}
+use Rattle.curp_law_kept.proofs.Migrations.{owned_more}
+use Rattle.curp_law_kept.proofs.Packages.{take_package}
 use Rattle.curp_law_runs.specs.Along.{HoldsOn}
 use Rattle.curp_facts.specs.Predecessors.{Predecessors}
 use Rattle.curp_law_runs.proofs.Along.{entry_along}

@@ -18,7 +18,7 @@ use Rattle.curp_facts.specs.Facts.{ByRecovery, Lists, Logged, ReplayOk, WasAdopt
 use Rattle.curp_facts.specs.Nodes.{IsWaiting, RecovererOk, StageOk}
 use Rattle.curp_facts.specs.Known.{Known}
 use Rattle.curp_law_kept.proofs.MastersMoves.{StageMove}
-use Rattle.curp_law_line.specs.OfWorld.{logged_entries}
+use Rattle.curp_law_linear.specs.OfWorld.{logged_entries}
 use Rattle.curp_facts.specs.Names.{RecoverOrderOk}
 use Rattle.curp_facts.specs.Predecessors.{Predecessor, Predecessors}
 use Rattle.curp_law_runs.proofs.Words.{one_backup, one_witness}

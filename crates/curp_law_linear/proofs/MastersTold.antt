@@ -18,15 +18,15 @@ use Rattle.curp_model.specs.Recovery.{Fresh, MasterStage, Recovering, RecoverySt
 use Rattle.curp_model.specs.World.{World, messages}
 use Rattle.curp_facts.specs.Facts.{IsAmong, WasSent}
 use Rattle.curp_law_kept.proofs.MastersMoves.{StageMove}
-use Rattle.curp_law_line.specs.Hashes.{Part, is_take}
-use Rattle.curp_law_line.specs.Line.{LineState}
-use Rattle.curp_law_line.specs.Moves.{Told}
-use Rattle.curp_law_line.specs.OfWorld.{entries_at, line_of, logged_entries, part_of, told_by}
-use Rattle.curp_law_line.proofs.Given.{LogsOk}
+use Rattle.curp_law_linear.specs.Hashes.{Part, is_take}
+use Rattle.curp_law_linear.specs.Line.{LineState}
+use Rattle.curp_law_linear.specs.Moves.{Told}
+use Rattle.curp_law_linear.specs.OfWorld.{entries_at, line_of, logged_entries, part_of, told_by}
+use Rattle.curp_law_linear.proofs.Given.{LogsOk}
 use Rattle.curp_law_linear.proofs.MastersLog.{Leads, leads_first, leads_none}
 use Rattle.curp_law_linear.proofs.Parts.{numbered_mapped}
-use Rattle.curp_law_masters.specs.Moves.{IsSaidBy, RecoverySays, ServingSays}
-use Rattle.curp_law_masters.specs.Stages.{FreshSays}
+use Rattle.curp_law_kept.specs.Moves.{IsSaidBy, RecoverySays, ServingSays}
+use Rattle.curp_law_kept.specs.Stages.{FreshSays}
 use Rattle.curp_facts.specs.Migrated.{Migrated, TakeStored}
 
 -- the take of the migration stands in a partition

@@ -12,10 +12,10 @@ use Rattle.curp_model.specs.World.{opening, opening_master, shape_of}
 use Rattle.curp_facts.specs.Facts.{HasLog, Logged, hi_of, lo_of, node_log}
 use Rattle.curp_facts.specs.Kept.{AdoptedLog}
 use Rattle.curp_msg.specs.Script.{IsHeader}
-use Rattle.curp_law_line.proofs.Openings.{opening_line}
+use Rattle.curp_law_linear.proofs.Openings.{opening_line}
 use Rattle.curp_law_linear.proofs.OpenedCuts.{cuts_follow_opening}
 use Rattle.curp_law_linear.specs.Ordered.{AdoptedLogOk, CaptureOk, MigrationsRise, Ordered}
-use Rattle.curp_law_logs.specs.Gives.{GivesFit}
+use Rattle.curp_law_kept.specs.GivesFit.{GivesFit}
 use Rattle.curp_law_runs.proofs.Steps.{nothing_sent}
 use Rattle.curp_base.proofs.Lists.{at_mapped}
 use Rattle.curp_base.proofs.Numbered.{place}

@@ -11,12 +11,12 @@ use Rattle.curp_facts.specs.Entries.{LogOk}
 use Rattle.curp_facts.specs.Facts.{IsAdoptedNow, Logged, hi_of, lists_of_part, lo_of, node_log}
 use Rattle.curp_facts.specs.Kept.{AdoptedLog}
 use Rattle.curp_facts.specs.Known.{Known}
-use Rattle.curp_law_line.specs.Hashes.{Part}
-use Rattle.curp_law_line.specs.OfWorld.{entries_at, line_of, logged_entries, part_of}
-use Rattle.curp_law_line.proofs.Discharged.{IsPlainLog, logs_ok}
-use Rattle.curp_law_line.proofs.Given.{LogsOk}
+use Rattle.curp_law_linear.specs.Hashes.{Part}
+use Rattle.curp_law_linear.specs.OfWorld.{entries_at, line_of, logged_entries, part_of}
+use Rattle.curp_law_linear.proofs.Discharged.{IsPlainLog, logs_ok}
+use Rattle.curp_law_linear.proofs.Given.{LogsOk}
 use Rattle.curp_law_linear.specs.Ordered.{MigrationsRise, Ordered, moved_number}
-use Rattle.curp_law_logs.specs.Migrations.{NumbersAscend, give_number, take_number}
+use Rattle.curp_law_kept.specs.Migrations.{NumbersAscend, give_number, take_number}
 use Rattle.curp_law_runs.proofs.Logs.{log_ok, range_ordered}
 
 -- what stands among what a function makes of numbered items

@@ -1,20 +1,20 @@
 -- A read that was answered at once is kept, and what is known of it, through the moves of a step.
-use Rattle.curp_law_line.specs.Moves.{LineMove, AllFit, all_after, after}
-use Rattle.curp_law_line.specs.Line.{LineState, LineOk, QuickGives, QuickEarly, QuickLow}
-use Rattle.curp_law_line.proofs.Given.{LogsOk}
+use Rattle.curp_law_linear.specs.Moves.{LineMove, AllFit, all_after, after}
+use Rattle.curp_law_linear.specs.Line.{LineState, LineOk, QuickGives, QuickEarly, QuickLow}
+use Rattle.curp_law_linear.proofs.Given.{LogsOk}
 use Rattle.curp_msg.specs.declared.machine.Capture.{Capture}
 use Rattle.curp_cmd.specs.declared.command.RequestId.{RequestId}
 use Rattle.curp_cmd.specs.declared.command.Answer.{Answer}
-use Rattle.curp_law_line.proofs.Keeps.{keeps}
-use Rattle.curp_law_line.proofs.Discharged.{pure, second}
-use Rattle.curp_law_line.proofs.QuickLaws.{quick_stays, low_stays}
-use Rattle.curp_law_line.proofs.QuickRuns.{early_on}
+use Rattle.curp_law_linear.proofs.Keeps.{keeps}
+use Rattle.curp_law_linear.proofs.Discharged.{pure, second}
+use Rattle.curp_law_linear.proofs.QuickLaws.{quick_stays, low_stays}
+use Rattle.curp_law_linear.proofs.QuickRuns.{early_on}
 use Rattle.curp_model.specs.World.{World}
 use Rattle.curp_law_linear.specs.Ordered.{Ordered, IsLow, QuickOk, capture_of}
-use Rattle.curp_law_stays.proofs.Words.{Follows, adopted_later, witness_later}
+use Rattle.curp_law_kept.proofs.Words.{Follows, adopted_later, witness_later}
 use Rattle.curp_law_linear.specs.Refined.{Refines}
 use Rattle.curp_model.specs.Marks.{Mark}
-use Rattle.curp_law_line.specs.OfWorld.{line_of}
+use Rattle.curp_law_linear.specs.OfWorld.{line_of}
 use Rattle.curp_law_linear.proofs.ReadsStored.{from_stays}
 use Rattle.curp_law_linear.proofs.ReadsPassed.{NoneLives}
 use Rattle.curp_cmd.specs.declared.node.NodeId.{NodeId}

@@ -5,14 +5,14 @@ use Rattle.curp_base.specs.Words.{At}
 use Rattle.curp_model.specs.World.{World}
 use Rattle.curp_facts.specs.Known.{Known}
 use Rattle.curp_law_linear.specs.Ordered.{CutsFollow}
-use Rattle.curp_law_line.specs.OfWorld.{Reign, reigns, cuts, reign_of, cut_length, line_of}
+use Rattle.curp_law_linear.specs.OfWorld.{Reign, reigns, cuts, reign_of, cut_length, line_of}
 use Rattle.curp_base.proofs.Lists.{at_within, at_map, at_same}
 use Rattle.std.proofs.lemmas.List.{length-map}
 use Rattle.std.proofs.lemmas.Bool.{cases_lt, eq-eqb}
-use Rattle.curp_law_line.specs.Moves.{put_before}
-use Rattle.curp_law_line.specs.Line.{LineOk, CutAt}
-use Rattle.curp_law_line.proofs.QuickBegins.{late_at_end, late_by_number, late_place}
-use Rattle.curp_law_line.proofs.Lists.{in_filter}
+use Rattle.curp_law_linear.specs.Moves.{put_before}
+use Rattle.curp_law_linear.specs.Line.{LineOk, CutAt}
+use Rattle.curp_law_linear.proofs.QuickBegins.{late_at_end, late_by_number, late_place}
+use Rattle.curp_law_linear.proofs.Lists.{in_filter}
 use Rattle.std.specs.List.{filter}
 use Rattle.std.proofs.lemmas.Bool.Decides.{nat_tests}
 

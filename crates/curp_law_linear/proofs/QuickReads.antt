@@ -1,6 +1,6 @@
 -- A step in which a serving master answers a read at once keeps what is kept of reads.
 use Rattle.std.proofs.Common.{◌≡◌, refl, ap, sym, ◌∙◌, subst, arith, true, Option, Some, ℕ, List, inl, inr, ◌⊎◌, ◌<◌, ◌+◌}
-use Rattle.curp_law_line.proofs.Puts.{Was, put_exact, put_filter}
+use Rattle.curp_law_linear.proofs.Puts.{Was, put_exact, put_filter}
 use Rattle.curp_model.specs.World.{World}
 use Rattle.curp_facts.specs.Known.{Known}
 use Rattle.curp_facts.specs.Predecessors.{Predecessors}
@@ -18,7 +18,7 @@ use Rattle.curp_cmd.specs.Node.{master_node, client_node}
 use Rattle.curp_msg.specs.declared.body.Quick.{Quick as QuickValue}
 use Rattle.curp_facts.specs.Kept.{lists_of_master}
 use Rattle.curp_law_linear.specs.Refined.{Refines, RefinesQuiet}
-use Rattle.curp_law_stays.proofs.Words.{Follows, one_state, adopted_later}
+use Rattle.curp_law_kept.proofs.Words.{Follows, one_state, adopted_later}
 use Rattle.curp_law_kept.proofs.MastersReady.{step_follows}
 use Rattle.curp_facts.specs.Nodes.{ServingOk}
 use Rattle.curp_law_linear.proofs.ReadsPassed.{capture_later}
@@ -26,7 +26,7 @@ use Rattle.curp_law_kept.proofs.Moved.{sent_cases}
 use Rattle.curp_facts.specs.Facts.{WasSent}
 use Rattle.curp_law_linear.proofs.ReadsLater.{ReadWas, ReadsOk, made_later, completed_later, older_later, quick_reached}
 use Rattle.curp_base.specs.Words.{numbered, At, Each}
-use Rattle.curp_law_line.specs.OfWorld.{cuts}
+use Rattle.curp_law_linear.specs.OfWorld.{cuts}
 use Rattle.std.proofs.lemmas.Bool.{eqb-true}
 use Rattle.curp_model.specs.Named.{IsMaster}
 use Rattle.curp_msg.specs.Moved.{says}

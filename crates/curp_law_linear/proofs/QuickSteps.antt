@@ -5,11 +5,11 @@ use Rattle.curp_model.specs.World.{World, messages}
 use Rattle.curp_facts.specs.Facts.{Lists, IsAdoptedNow, lists_of_part, lo_of, hi_of, WasSent, IsAmong}
 use Rattle.curp_cmd.specs.declared.node.NodeId.{NodeId}
 use Rattle.curp_model.specs.Marks.{Mark, quick, cuts_part, with_quick}
-use Rattle.curp_law_line.specs.Moves.{put_before, Look, LookFits, Late, LateFits, Quicks, Lates, quickly, late_quickly}
+use Rattle.curp_law_linear.specs.Moves.{put_before, Look, LookFits, Late, LateFits, Quicks, Lates, quickly, late_quickly}
 use Rattle.curp_law_linear.specs.Refined.{RefinesQuiet}
-use Rattle.curp_law_line.specs.Line.{QuickGives, QuickEarly, QuickLow, WasInvoked, LineState, Left, IsFirm, CutEarly}
+use Rattle.curp_law_linear.specs.Line.{QuickGives, QuickEarly, QuickLow, WasInvoked, LineState, Left, IsFirm, CutEarly}
 use Rattle.curp_law_linear.specs.Ordered.{capture_of, Gated, StoredFrom, IsStored, Ordered, CutsFollow, reign_in}
-use Rattle.curp_law_line.specs.OfWorld.{line_of, cuts, reigns, reign_of, Reign, cut_length, left_of, left_at, log_of, entries_at, moving_of, part_of, told_by}
+use Rattle.curp_law_linear.specs.OfWorld.{line_of, cuts, reigns, reign_of, Reign, cut_length, left_of, left_at, log_of, entries_at, moving_of, part_of, told_by}
 use Rattle.curp_facts.specs.Known.{Known}
 use Rattle.curp_facts.specs.Predecessors.{Predecessors}
 use Rattle.curp_law_kept.proofs.MastersMoves.{MasterStep}
@@ -18,16 +18,16 @@ use Rattle.curp_msg.specs.declared.body.Quick.{Quick as QuickValue}
 use Rattle.curp_msg.specs.declared.machine.Capture.{Capture}
 use Rattle.curp_facts.specs.Nodes.{ServingOk}
 use Rattle.curp_model.specs.Recovery.{Serving}
-use Rattle.curp_law_stays.proofs.Words.{Follows, witness_later}
+use Rattle.curp_law_kept.proofs.Words.{Follows, witness_later}
 use Rattle.curp_law_kept.proofs.MastersReady.{step_follows}
 use Rattle.curp_facts.specs.Said.{ReadSaid}
-use Rattle.curp_law_masters.specs.Moves.{QuickSays, IsSaidBy, ServingSays}
+use Rattle.curp_law_kept.specs.Moves.{QuickSays, IsSaidBy, ServingSays}
 use Rattle.curp_model.specs.Master.{Open, synced, state_of, MasterState}
-use Rattle.curp_law_line.proofs.Given.{LogsOk}
+use Rattle.curp_law_linear.proofs.Given.{LogsOk}
 use Rattle.curp_law_linear.proofs.Parts.{line_logs, entry_part}
 use Rattle.curp_cmd.specs.Store.{applied}
 use Rattle.curp_model.specs.Log.{answer_after, entry_touches, meaning}
-use Rattle.curp_law_line.proofs.Puts.{put_filter}
+use Rattle.curp_law_linear.proofs.Puts.{put_filter}
 use Rattle.curp_law_linear.proofs.MastersParts.{own_log_after, own_log_before, parts_stay, other_part, other_master}
 use Rattle.curp_model.specs.Manager.{ManagerState}
 use Rattle.curp_model.specs.Ranges.{opening_range}
@@ -36,13 +36,13 @@ use Rattle.curp_law_linear.proofs.Left.{left_stays, left_is, Superseded}
 use Rattle.curp_law_linear.proofs.Cuts.{superseded_reign, CutAdopted, cut_adoption, last_reign}
 use Rattle.curp_facts.specs.Names.{IsOf}
 use Rattle.curp_law_kept.proofs.MastersSay.{synced_within}
-use Rattle.curp_law_masters.proofs.Synced.{synced_many}
+use Rattle.curp_law_kept.proofs.Synced.{synced_many}
 use Rattle.curp_law_linear.proofs.ReadsReady.{open_last}
 use Rattle.curp_facts.specs.Reach.{HasMany}
 use Rattle.curp_law_linear.proofs.Found.{none_any}
 use Rattle.curp_base.proofs.Lists.{at_drop, at_map, at_same, at_some, at_within}
-use Rattle.curp_law_logs.proofs.Ranges.{each_touched, owns_touched}
-use Rattle.curp_law_masters.proofs.Clean.{clean_apart}
+use Rattle.curp_law_kept.proofs.Ranges.{each_touched, owns_touched}
+use Rattle.curp_law_kept.proofs.Clean.{clean_apart}
 use Rattle.curp_cmd.specs.Hash.{touches}
 use Rattle.std.specs.List.{list_any}
 use Rattle.curp_msg.specs.declared.config.PartConfig.{PartConfig}
@@ -50,21 +50,21 @@ use Rattle.curp_facts.specs.Kept.{lists_of_master}
 use Rattle.curp_range.specs.Spans.{is_owned}
 use Rattle.curp_law_linear.proofs.QuickPlaces.{put_last, at_end, AtCut, put_cut}
 use Rattle.curp_cmd.specs.declared.command.Answer.{Answer}
-use Rattle.curp_law_line.proofs.QuickBegins.{quick_early, quick_low, firm_whole, late_reads_whole, late_early_whole, late_is_low}
-use Rattle.curp_law_line.proofs.Lates.{late_low}
-use Rattle.curp_law_line.proofs.Discharged.{pure, second}
+use Rattle.curp_law_linear.proofs.QuickBegins.{quick_early, quick_low, firm_whole, late_reads_whole, late_early_whole, late_is_low}
+use Rattle.curp_law_linear.proofs.Lates.{late_low}
+use Rattle.curp_law_linear.proofs.Discharged.{pure, second}
 use Rattle.curp_law_linear.proofs.ReadsStored.{from_stays}
 use Rattle.std.proofs.lemmas.Bool.{cases_lt}
 use Rattle.curp_law_runs.proofs.Logs.{gives_within}
 use Rattle.curp_law_runs.proofs.Lists.{ready}
 use Rattle.curp_msg.specs.Moved.{says}
 use Rattle.curp_cmd.specs.Node.{manager_node, client_node, master_node}
-use Rattle.curp_law_names.proofs.Lists.{among_each}
+use Rattle.curp_law_kept.proofs.NumberedLists.{among_each}
 use Rattle.curp_model.specs.Named.{IsBackup}
-use Rattle.curp_law_line.specs.Hashes.{Part, owns}
-use Rattle.curp_law_logs.specs.Gives.{GivesWithin}
+use Rattle.curp_law_linear.specs.Hashes.{Part, owns}
+use Rattle.curp_law_kept.specs.GivesFit.{GivesWithin}
 use Rattle.curp_cmd.specs.declared.entry.Entry.TheVariants.{Give}
-use Rattle.curp_law_line.specs.Laws.{left_answer}
+use Rattle.curp_law_linear.specs.Laws.{left_answer}
 use Rattle.curp_model.specs.Witness.{WitnessState}
 use Rattle.curp_msg.specs.declared.body.Probed.{Probed}
 use Rattle.curp_law_linear.proofs.MastersCuts.{master_lives}

@@ -5,7 +5,7 @@ use Rattle.curp_msg.specs.declared.message.Message.{Message}
 use Rattle.curp_order.specs.declared.Event.{Event}
 use Rattle.curp_model.specs.Marks.{Mark}
 use Rattle.curp_model.specs.World.{World}
-use Rattle.curp_law_line.specs.OfWorld.{line_of, told_by}
+use Rattle.curp_law_linear.specs.OfWorld.{line_of, told_by}
 use Rattle.curp_law_linear.specs.Refined.{RefinesQuiet}
 use Rattle.curp_law_linear.proofs.Same.{SameLogs, same_line}
 

@@ -26,16 +26,16 @@ use Rattle.curp_facts.specs.Facts.{HasLog, IsAdoptedNow, hi_of, lists_of_part, l
 use Rattle.curp_facts.specs.Kept.{AdoptedLog, lists_of_master}
 use Rattle.curp_facts.specs.Nodes.{CapturedOk, ServingOk}
 use Rattle.curp_facts.specs.Known.{Known}
-use Rattle.curp_law_line.specs.Hashes.{owns}
-use Rattle.curp_law_line.specs.Line.{LookGives}
-use Rattle.curp_law_line.specs.Moves.{Look, LookFits}
-use Rattle.curp_law_line.specs.OfWorld.{line_of, part_of}
-use Rattle.curp_law_line.proofs.Discharged.{pure, second}
-use Rattle.curp_law_line.proofs.Keeps.{look_reads}
+use Rattle.curp_law_linear.specs.Hashes.{owns}
+use Rattle.curp_law_linear.specs.Line.{LookGives}
+use Rattle.curp_law_linear.specs.Moves.{Look, LookFits}
+use Rattle.curp_law_linear.specs.OfWorld.{line_of, part_of}
+use Rattle.curp_law_linear.proofs.Discharged.{pure, second}
+use Rattle.curp_law_linear.proofs.Keeps.{look_reads}
 use Rattle.curp_law_linear.specs.Ordered.{Ordered}
 use Rattle.curp_law_linear.proofs.Parts.{entry_part, line_logs, part_log}
 use Rattle.curp_law_linear.proofs.ReadsCaptures.{CapturesRead}
-use Rattle.curp_law_logs.proofs.Ranges.{owns_touched}
+use Rattle.curp_law_kept.proofs.Ranges.{owns_touched}
 use Rattle.curp_base.proofs.Numbered.{at_place}
 
 -- a master that some entry names

@@ -22,7 +22,7 @@ use Rattle.curp_facts.specs.Facts.{ByRecovery, IsAdoptedNow, WasSent, lists_of_o
 use Rattle.curp_facts.specs.Kept.{lists_of_master}
 use Rattle.curp_facts.specs.Nodes.{IsWaiting, MasterOk}
 use Rattle.curp_facts.specs.Said.{RecoveredSaid}
-use Rattle.curp_law_growth.specs.Deeds.{IsFor}
+use Rattle.curp_law_kept.specs.Deeds.{IsFor}
 use Rattle.curp_base.proofs.Numbered.{numbered_set_cases, numbered_set_same, place}
 use Rattle.curp_law_kept.specs.ManagerEffect.{ManagerEffect, Uttered}
 use Rattle.curp_facts.specs.Known.{Known}
@@ -36,13 +36,13 @@ use Rattle.curp_law_linear.proofs.ReadsManager.{AdoptsRecovery, AdoptsThat, Mana
 use Rattle.curp_law_linear.proofs.ReadsManagerLists.{manager_said, new_entry}
 use Rattle.curp_law_linear.proofs.ReadsManagerSteps.{was_heard}
 use Rattle.curp_facts.specs.Names.{RecoveringOk}
-use Rattle.curp_law_names.proofs.Steps.{manager_moved, moved_messages}
+use Rattle.curp_law_kept.proofs.ManagerWorlds.{manager_moved, moved_messages}
 use Rattle.curp_facts.specs.Predecessors.{Predecessors}
 use Rattle.curp_law_runs.proofs.Uttered.{manager_adopts}
 use Rattle.curp_law_linear.proofs.CutsAdopt.{cuts_follow_adopted, cuts_cases}
-use Rattle.curp_law_line.specs.OfWorld.{log_of}
+use Rattle.curp_law_linear.specs.OfWorld.{log_of}
 use Rattle.curp_law_linear.proofs.CutsTimes.{timed_more}
-use Rattle.curp_law_stays.proofs.Words.{Follows}
+use Rattle.curp_law_kept.proofs.Words.{Follows}
 
 -- a master that waits to be adopted, with what it has replayed
 pub record WaitsFor (w : World) (node : NodeId) : Type 0 where

@@ -17,7 +17,7 @@ use Rattle.curp_model.specs.Manager as manager
 use Rattle.curp_model.specs.Manager.{Attempted, Doing, ManagerState, Recovering, Replacing, Steady, adopted_by, adoption, adopts, attempt_at, counter_ends, finished, last_number, manager_input, on_manager, part_at, recovered_in, recovered_part, unless_numbers_end}
 use Rattle.curp_model.specs.World.{World}
 use Rattle.curp_facts.specs.Facts.{WasSent}
-use Rattle.curp_law_growth.specs.Deeds.{IsFor}
+use Rattle.curp_law_kept.specs.Deeds.{IsFor}
 use Rattle.curp_model.proofs.Managers.{counters_stay}
 
 -- the attempt was told to be finished, over the entry of its partition, which it replaces

@@ -25,11 +25,11 @@ use Rattle.curp_law_linear.proofs.ReadsStored.{from_stays, looks_stored, stored_
 use Rattle.curp_facts.specs.Predecessors.{Predecessors}
 use Rattle.curp_msg.specs.declared.machine.Capture.{Capture}
 use Rattle.curp_cmd.specs.declared.command.RequestId.{RequestId}
-use Rattle.curp_law_line.specs.Line.{QuickLow}
+use Rattle.curp_law_linear.specs.Line.{QuickLow}
 use Rattle.curp_law_linear.proofs.QuickLater.{low_later, quick_later}
 use Rattle.curp_msg.specs.declared.body.Quick.{Quick as QuickValue}
 use Rattle.std.proofs.lemmas.Bool.{eq-eqb}
-use Rattle.curp_law_stays.proofs.Words.{Follows, serving_later}
+use Rattle.curp_law_kept.proofs.Words.{Follows, serving_later}
 
 -- what is kept of reads
 pub record ReadsOk (w : World) : Type 0 where

@@ -25,13 +25,13 @@ use Rattle.curp_law_linear.proofs.ReadsMasters.{serving_step_reads}
 use Rattle.curp_law_linear.specs.Refined.{NoAdoption}
 use Rattle.curp_law_linear.proofs.ReadsMoves.{none_drops}
 use Rattle.curp_law_linear.proofs.ReadsQuiet.{looks_same}
-use Rattle.curp_law_masters.specs.Moves.{IsSaidBy, RecoverySays}
-use Rattle.curp_law_masters.specs.Stages.{FreshSays}
-use Rattle.curp_law_names.proofs.Lists.{among_each}
+use Rattle.curp_law_kept.specs.Moves.{IsSaidBy, RecoverySays}
+use Rattle.curp_law_kept.specs.Stages.{FreshSays}
+use Rattle.curp_law_kept.proofs.NumberedLists.{among_each}
 use Rattle.curp_facts.specs.Predecessors.{Predecessors}
 use Rattle.curp_law_linear.proofs.MastersCuts.{master_lives, master_entries, master_newer, master_late}
 use Rattle.curp_msg.specs.declared.body.Quick.{Quick as QuickValue}
-use Rattle.curp_law_stays.proofs.Words.{one_state}
+use Rattle.curp_law_kept.proofs.Words.{one_state}
 use Rattle.curp_cmd.proofs.Nodes.{either_node}
 
 -- ---- a master that doesn't serve yet

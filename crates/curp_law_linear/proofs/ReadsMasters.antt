@@ -41,14 +41,14 @@ use Rattle.curp_law_linear.proofs.ReadsMoves.{none_drops, worth_later}
 use Rattle.curp_law_linear.proofs.ReadsPassed.{KnowsNoLater, NewerLists, NoneLate, capture_later}
 use Rattle.curp_law_linear.proofs.ReadsReady.{passed_new, ready_looks, ready_stored}
 use Rattle.curp_law_linear.proofs.ReadsStored.{looks_stored}
-use Rattle.curp_law_masters.specs.Moves.{IsSaidBy, ServingMove, ServingSays, WorthSays}
-use Rattle.curp_law_names.proofs.Lists.{among_each}
+use Rattle.curp_law_kept.specs.Moves.{IsSaidBy, ServingMove, ServingSays, WorthSays}
+use Rattle.curp_law_kept.proofs.NumberedLists.{among_each}
 use Rattle.curp_facts.specs.Predecessors.{Predecessors}
 use Rattle.curp_law_linear.proofs.QuickLater.{quick_later}
 use Rattle.curp_msg.specs.declared.body.Quick.{Quick as QuickValue}
 use Rattle.curp_law_linear.proofs.MastersCuts.{master_lives, master_entries, master_newer, master_late}
 use Rattle.std.proofs.lemmas.Bool.{eqb-true}
-use Rattle.curp_law_stays.proofs.Words.{Follows, adopted_later, one_state, serving_later}
+use Rattle.curp_law_kept.proofs.Words.{Follows, adopted_later, one_state, serving_later}
 use Rattle.curp_cmd.proofs.Nodes.{either_node}
 
 module _ {w v : World} (known : Known w) (now : Known v) (chain : Predecessors w) (later : Predecessors v) (ordered : Ordered w) {n : ℕ} {from : NodeId} {heard : Option Body} {x y : MasterState} {out : List Message}

@@ -10,18 +10,18 @@ use Rattle.curp_msg.specs.declared.machine.Capture.{Capture}
 use Rattle.curp_model.specs.World.{World}
 use Rattle.curp_facts.specs.Facts.{IsAdoptedNow}
 use Rattle.curp_facts.specs.Known.{Known}
-use Rattle.curp_law_line.specs.Line.{LineState, LineOk, LookGives}
-use Rattle.curp_law_line.specs.Moves.{AllFit, Adopts, IsDropped, LineMove, after, all_after}
-use Rattle.curp_law_line.specs.OfWorld.{line_of}
-use Rattle.curp_law_line.proofs.Discharged.{pure, second}
-use Rattle.curp_law_line.proofs.Given.{LogsOk}
-use Rattle.curp_law_line.proofs.Keeps.{keeps, look_stays}
+use Rattle.curp_law_linear.specs.Line.{LineState, LineOk, LookGives}
+use Rattle.curp_law_linear.specs.Moves.{AllFit, Adopts, IsDropped, LineMove, after, all_after}
+use Rattle.curp_law_linear.specs.OfWorld.{line_of}
+use Rattle.curp_law_linear.proofs.Discharged.{pure, second}
+use Rattle.curp_law_linear.proofs.Given.{LogsOk}
+use Rattle.curp_law_linear.proofs.Keeps.{keeps, look_stays}
 use Rattle.curp_law_linear.specs.Ordered.{Ordered, StoredFrom, WorthOk}
 use Rattle.curp_law_linear.specs.Refined.{NoAdoption, Refines}
 use Rattle.curp_law_linear.proofs.ReadsStored.{stored_now, stored_stays}
 use Rattle.curp_facts.specs.Predecessors.{Predecessors}
 use Rattle.curp_facts.specs.Migrated.{AllStored}
-use Rattle.curp_law_stays.proofs.Words.{Follows, adopted_later}
+use Rattle.curp_law_kept.proofs.Words.{Follows, adopted_later}
 
 -- no move drops looks of that length in that partition
 abbrev pub NoneDrops : List LineMove → ℕ → ℕ → Type 0

@@ -16,7 +16,7 @@ use Rattle.curp_facts.specs.Growth.{BackupGrows}
 use Rattle.curp_facts.specs.Kept.{NeverSoLate, PassedBy, lists_of_master}
 use Rattle.curp_facts.specs.Nodes.{BackupOk}
 use Rattle.curp_facts.specs.Known.{Known}
-use Rattle.curp_law_line.specs.Line.{LookGives}
+use Rattle.curp_law_linear.specs.Line.{LookGives}
 use Rattle.curp_law_linear.specs.Ordered.{CaptureOk, Ordered}
 use Rattle.curp_law_linear.specs.Refined.{Refines}
 use Rattle.curp_law_linear.proofs.ReadsMoves.{NoneDrops, look_later}
@@ -24,7 +24,7 @@ use Rattle.curp_facts.specs.Names.{RecoverOrderOk}
 use Rattle.curp_model.specs.Witness.{WitnessState}
 use Rattle.curp_msg.specs.declared.body.Probed.{Probed}
 use Rattle.curp_model.specs.declared.Mode.TheVariants as mode
-use Rattle.curp_law_stays.proofs.Words.{Follows, adopted_later, backup_later, sent_later}
+use Rattle.curp_law_kept.proofs.Words.{Follows, adopted_later, backup_later, sent_later}
 
 -- lists that are adopted now are of no earlier epoch than those of their partition that were
 abbrev pub NewerLists : World → World → Type 0

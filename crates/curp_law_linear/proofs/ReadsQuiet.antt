@@ -23,7 +23,7 @@ use Rattle.curp_model.specs.World.{World, with_completion}
 use Rattle.curp_facts.specs.Facts.{EntryWas, IsAdoptedNow, WasSent}
 use Rattle.curp_facts.specs.Nodes.{MayCome}
 use Rattle.curp_facts.specs.Said.{WorthSaid}
-use Rattle.curp_law_keepers.specs.ClientEffect.{ByValue, CompletionOk, MayComplete, ByQuick}
+use Rattle.curp_law_kept.specs.ClientEffect.{ByValue, CompletionOk, MayComplete, ByQuick}
 use Rattle.curp_law_kept.proofs.ClientSteps.{ClientMoved}
 use Rattle.curp_law_kept.proofs.Clients.{client_messages, effect}
 use Rattle.curp_facts.specs.Known.{Known}
@@ -42,11 +42,11 @@ use Rattle.curp_facts.specs.Names.{IsOf}
 use Rattle.curp_facts.specs.Predecessors.{Predecessors}
 use Rattle.curp_law_linear.proofs.CutMarks.{cuts_after, hit_capture}
 use Rattle.curp_law_linear.proofs.Cuts.{cuts_stay}
-use Rattle.curp_law_line.specs.OfWorld.{cuts}
+use Rattle.curp_law_linear.specs.OfWorld.{cuts}
 use Rattle.curp_law_linear.proofs.CutsTimes.{timed_stay}
 use Rattle.curp_msg.specs.declared.body.Quick.{Quick as QuickValue}
 use Rattle.curp_facts.specs.Reach.{QuickSaid}
-use Rattle.curp_law_stays.proofs.Words.{Follows}
+use Rattle.curp_law_kept.proofs.Words.{Follows}
 
 -- ---- marks
 

@@ -19,12 +19,12 @@ use Rattle.curp_facts.specs.Kept.{AdoptionOk, NeverSoLate, PassedBy, lists_of_ma
 use Rattle.curp_facts.specs.Nodes.{ServingOk}
 use Rattle.curp_facts.specs.Reach.{HasMany, IsReady}
 use Rattle.curp_facts.specs.Known.{Known}
-use Rattle.curp_law_line.specs.Line.{LookGives}
+use Rattle.curp_law_linear.specs.Line.{LookGives}
 use Rattle.curp_law_linear.specs.Ordered.{CaptureOk, IsStored}
-use Rattle.curp_law_masters.specs.Moves.{HasAcknowledged}
-use Rattle.curp_law_masters.proofs.Among.{each_tested}
-use Rattle.curp_law_masters.proofs.Synced.{acknowledged_many}
-use Rattle.curp_law_names.proofs.Lists.{among_each}
+use Rattle.curp_law_kept.specs.Moves.{HasAcknowledged}
+use Rattle.curp_law_kept.proofs.Among.{each_tested}
+use Rattle.curp_law_kept.proofs.Synced.{acknowledged_many}
+use Rattle.curp_law_kept.proofs.NumberedLists.{among_each}
 use Rattle.curp_facts.specs.Predecessors.{Predecessor, Predecessors}
 use Rattle.curp_law_runs.proofs.Adoptions.{adoptions_ok}
 use Rattle.curp_law_runs.proofs.Lists.{order_first, ready}

@@ -15,7 +15,7 @@ use Rattle.curp_facts.specs.Predecessors.{Predecessors}
 use Rattle.curp_law_runs.proofs.Along.{reach_along}
 use Rattle.curp_law_runs.proofs.Logs.{reached}
 use Rattle.curp_facts.specs.Migrated.{AllStored}
-use Rattle.curp_law_stays.proofs.Words.{Follows, adopted_later, log_later, reach_later}
+use Rattle.curp_law_kept.proofs.Words.{Follows, adopted_later, log_later, reach_later}
 
 -- ---- one step later
 

@@ -7,8 +7,8 @@ use Rattle.curp_model.specs.Manager.{ManagerState}
 use Rattle.curp_model.specs.Ranges.{opening_range}
 use Rattle.curp_model.specs.Recovery.{MasterStage}
 use Rattle.curp_model.specs.World.{World, messages}
-use Rattle.curp_law_line.specs.Hashes.{Part}
-use Rattle.curp_law_line.specs.OfWorld.{cuts, entries_at, left_of, line_of, moving_of, told_by}
+use Rattle.curp_law_linear.specs.Hashes.{Part}
+use Rattle.curp_law_linear.specs.OfWorld.{cuts, entries_at, left_of, line_of, moving_of, told_by}
 use Rattle.curp_law_linear.proofs.Left.{left_stays}
 
 -- the world has the same masters, the same manager and the same adoptions, and its new messages tell of no package

@@ -4,11 +4,11 @@ use Rattle.curp_order.specs.Order.{IsHistory, IsOrder}
 use Rattle.curp_model.specs.World.{World, order}
 use Rattle.curp_facts.specs.Kept.{LateRepliesAgree}
 use Rattle.curp_facts.specs.Known.{Known}
-use Rattle.curp_law_line.specs.Line.{LineState, StandsIn, completed_order}
-use Rattle.curp_law_line.specs.OfWorld.{line_of}
-use Rattle.curp_law_line.proofs.Discharged.{pure, second}
-use Rattle.curp_law_line.proofs.Growing.{order_grows_on}
-use Rattle.curp_law_line.proofs.Histories.{order_stands, shows_done}
+use Rattle.curp_law_linear.specs.Line.{LineState, StandsIn, completed_order}
+use Rattle.curp_law_linear.specs.OfWorld.{line_of}
+use Rattle.curp_law_linear.proofs.Discharged.{pure, second}
+use Rattle.curp_law_linear.proofs.Growing.{order_grows_on}
+use Rattle.curp_law_linear.proofs.Histories.{order_stands, shows_done}
 use Rattle.curp_facts.specs.Predecessors.{Predecessors}
 use Rattle.curp_facts.specs.Migrated.{Migrated}
 use Rattle.curp_law_linear.specs.Grows.{completed_in_order}

@@ -1,3 +1,11 @@
+pub mod Hashes
+pub mod Line
+pub mod Moves
+pub mod Moved
+pub mod OfWorld
+pub mod Given
+pub mod Laws
+pub mod LateRead
 pub mod Ordered
 pub mod Refined
 pub mod Grows

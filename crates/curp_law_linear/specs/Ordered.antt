@@ -29,9 +29,9 @@ use Rattle.curp_facts.specs.Facts.{HasLog, IsAdoptedNow, IsAmong, Lists, Logged,
 use Rattle.curp_facts.specs.Kept.{AdoptedLog, PassedBy, lists_of_master}
 use Rattle.curp_facts.specs.Reach.{Reach}
 use Rattle.curp_cmd.specs.Store.{NamesKey}
-use Rattle.curp_law_line.specs.Line.{CutEarly, LineOk, LookGives, QuickEarly, QuickGives, QuickLow, WasInvoked}
-use Rattle.curp_law_line.specs.OfWorld.{Reign, cut_length, cuts, line_of, log_of, reigns}
-use Rattle.curp_law_logs.specs.Gives.{GivesFit}
+use Rattle.curp_law_linear.specs.Line.{CutEarly, LineOk, LookGives, QuickEarly, QuickGives, QuickLow, WasInvoked}
+use Rattle.curp_law_linear.specs.OfWorld.{Reign, cut_length, cuts, line_of, log_of, reigns}
+use Rattle.curp_law_kept.specs.GivesFit.{GivesFit}
 use Rattle.curp_facts.specs.Migrated.{AllStored}
 
 -- the number of the migration that an entry takes or gives

@@ -3,14 +3,14 @@ use Rattle.std.specs.Prelude.{◌≡◌, ◌+◌, List, Option, Some, None}
 use Rattle.std.specs.Bool.{⊤}
 use Rattle.curp_base.specs.Words.{Each}
 use Rattle.curp_model.specs.World.{World}
-use Rattle.curp_law_line.specs.Moves.{Adopts, AllFit, LineMove, all_after}
-use Rattle.curp_law_line.specs.OfWorld.{line_of}
+use Rattle.curp_law_linear.specs.Moves.{Adopts, AllFit, LineMove, all_after}
+use Rattle.curp_law_linear.specs.OfWorld.{line_of}
 use Rattle.curp_cmd.specs.declared.command.Command.{Command}
 use Rattle.curp_cmd.specs.declared.command.RequestId.{RequestId}
 use Rattle.curp_model.specs.Manager.{Attempted}
 use Rattle.curp_model.specs.Marks.{adoptions}
-use Rattle.curp_law_line.specs.Line.{CutEarly}
-use Rattle.curp_law_line.specs.Given.{LogsOk}
+use Rattle.curp_law_linear.specs.Line.{CutEarly}
+use Rattle.curp_law_linear.specs.Given.{LogsOk}
 
 -- these moves, each of which can be made and from logs that are logs, lead from what the machine has of one world to what it
 -- has of the other

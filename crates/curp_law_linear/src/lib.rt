@@ -3,17 +3,31 @@
 //! refused. There is no code here: a law is the contract of a function with nothing in it, and a caller has the law by
 //! the call.
 //!
-//! Each step of the world is told as moves of the machine of `curp_law_line` in `specs/Refined.antt`, and what a world
-//! keeps of the order and of reads in `specs/Ordered.antt`. `proofs/Masters*` have what a master pushes and captures,
-//! `Managers*` and `Adopt*` migrations and adoptions, `Cuts*` and `Left.antt` marks of adoptions and superseded logs,
-//! `Reads*` looks, captures and values, `Quick*` reads that are answered at once, `Always.antt` and `Runs.antt` the
-//! induction, `Kept*` and `Statements.antt` what the laws say of a world.
+//! The order stands over a small machine of adopted logs, superseded logs, the migration in work, marks and history; its
+//! laws are those of `line`. Each step of the world is told as moves of it in `specs/Refined.antt`, and what a world
+//! keeps of the order and of reads in `specs/Ordered.antt`.
+//!
+//! Of the world, `proofs/Masters*` have what a master pushes and captures, `Managers*`, `Adopt` and the files `AdoptDone`,
+//! `AdoptHeld`, `AdoptLeft`, `AdoptMigrations` and `AdoptRecovery` migrations and adoptions, `Cut*`, `OpenedCuts` and
+//! `Left` marks of adoptions and superseded logs, `Reads*` looks, captures and values, `QuickLater`, `QuickPlaces`,
+//! `QuickReads`, `QuickSteps` and `LivesEarly` reads that are answered at once, `*Refine` what else is moves, `Always` and
+//! `Runs` the induction, `KeptWorld`, `KeptStores`, `KeptOwners`, `KeptReads`, `KeptQuicks` and `Statements` what the laws
+//! say of a world.
+//!
+//! Of the machine, `proofs/Pushes`, `Ops`, `Takes`, `ToldTakes`, `GivePushes`, `Expiries`, `Invocations` and `Completions`
+//! have what its moves keep of the order, `Adopted*`, `Adopting`, `Adoptions`, `Carried` and `Requests` what an adoption
+//! does, `Hashes`, `Grounds`, `Owners`, `Owning`, `OwnedValues`, `Spans` and `Migrations` each hash and who owns it,
+//! `Looks*`, `Puts`, `Values` and `ReadsKept` reads, `Lates`, `QuickBegins`, `QuickLaws`, `QuickRuns`, `QuickWas`,
+//! `Quicks*` and `LateRead` those that are answered at once; `Lines` has the equation at a hash, `Keeps`, `UpdatesKept` and
+//! `Orders` all moves, `Openings` the opening, `Histories`, `Growing` and `Stores` what follows for order and history.
 #![tactic(auto)]
+
+pub mod line;
 
 ghost use Rattle.std.specs.Prelude.{List};
 ghost use Rattle.curp_facts.specs.Kept.{Kept, LateRepliesAgree, QuicksMarked, ValuesMarked};
 ghost use Rattle.curp_msg.specs.Script.{IsRun, IsStep};
-ghost use Rattle.curp_law_line.specs.Line.{StandsIn};
+ghost use Rattle.curp_law_linear.specs.Line.{StandsIn};
 ghost use Rattle.curp_law_linear.specs.Grows.{completed_in_order};
 ghost use Rattle.curp_model.specs.World.{order, step, world};
 ghost use Rattle.curp_msg.specs.declared.script.Header.{Header};

@@ -21,7 +21,7 @@ use Rattle.curp_facts.specs.Said.{IsTakeOf, StoredEntry}
 use Rattle.curp_law_kept.proofs.Moved.{sent_cases}
 use Rattle.curp_law_runs.proofs.Logs.{has_home}
 use Rattle.curp_law_runs.proofs.Words.{one_log, said}
-use Rattle.curp_law_stays.proofs.Words.{Follows, log_later, sent_later}
+use Rattle.curp_law_kept.proofs.Words.{Follows, log_later, sent_later}
 use Rattle.curp_facts.specs.Before.{GivesBefore, Routed}
 use Rattle.curp_facts.specs.Migrated.{WasTold}
 use Rattle.curp_facts.specs.Routes.{IsMoving}

@@ -24,15 +24,15 @@ use Rattle.curp_model.specs.Recovery.{master_input}
 use Rattle.curp_model.specs.Witness.{witness_input}
 use Rattle.curp_model.specs.World.{World, deed_of, delivery, effect, events_of, kept, messages, moves_kind, moves_one, result_of, step, steps_by}
 use Rattle.curp_facts.specs.Facts.{IsAmong}
-use Rattle.curp_law_growth.specs.Deeds as deeds
+use Rattle.curp_law_kept.specs.Deeds as deeds
 use Rattle.curp_facts.specs.Names.{IsOf}
 use Rattle.curp_facts.specs.Fits.{MessageFits}
-use Rattle.curp_law_names.proofs.Clients.{Arrives, client_fits, is_manager}
-use Rattle.curp_law_names.proofs.Keepers.{AllSaid, InputFits, Said, backup_fits, witness_fits}
-use Rattle.curp_law_names.proofs.Lists.{among_each}
-use Rattle.curp_law_names.proofs.Named.{named}
-use Rattle.curp_law_names.proofs.Others.{Both}
-use Rattle.curp_law_names.proofs.Recoverings.{IsForMaster, master_fits}
+use Rattle.curp_law_kept.proofs.ClientsFit.{Arrives, client_fits, is_manager}
+use Rattle.curp_law_kept.proofs.KeepersFit.{AllSaid, InputFits, Said, backup_fits, witness_fits}
+use Rattle.curp_law_kept.proofs.NumberedLists.{among_each}
+use Rattle.curp_law_kept.proofs.Named.{named}
+use Rattle.curp_law_kept.proofs.OthersNames.{Both}
+use Rattle.curp_law_kept.proofs.Recoverings.{IsForMaster, master_fits}
 use Rattle.curp_law_runs.specs.Steps.{ByManager, ByOther, ManagerMoves}
 use Rattle.curp_base.proofs.Numbered.{place, number_within}
 use Rattle.curp_model.proofs.Batches.{all_of-kept}

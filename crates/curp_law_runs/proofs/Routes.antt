@@ -16,9 +16,9 @@ use Rattle.curp_model.specs.World.{World, messages}
 use Rattle.curp_facts.specs.Facts.{IsMasterOf, WasOrdered, WasSent}
 use Rattle.curp_law_kept.proofs.Moved.{given_back, sent_back, sent_cases, sent_now}
 use Rattle.curp_facts.specs.Names.{IsAdoptedMaster, Names}
-use Rattle.curp_law_stays.proofs.Entries.{ordered_later}
-use Rattle.curp_law_stays.proofs.Replies.{entry_stored_later}
-use Rattle.curp_law_stays.proofs.Words.{Follows, given_later, sent_later}
+use Rattle.curp_law_kept.proofs.Entries.{ordered_later}
+use Rattle.curp_law_kept.proofs.Replies.{entry_stored_later}
+use Rattle.curp_law_kept.proofs.Words.{Follows, given_later, sent_later}
 use Rattle.curp_law_runs.specs.Orders.{BeginsMigration, Ends, MayOrder, Orders, Stays}
 use Rattle.curp_facts.specs.Routes.{InWork, IsMigrationDone, IsGiveOf, IsMoving, Routes, order_of}
 

@@ -22,14 +22,14 @@ use Rattle.curp_facts.specs.Facts.{IsOnlyExpire}
 use Rattle.curp_facts.specs.Growth.{IsSilent, PushesLittle}
 use Rattle.curp_msg.specs.Script.{IsStep}
 use Rattle.curp_facts.specs.Silence.{IsSilentIn, SwitchesOn}
-use Rattle.curp_law_growth.specs.Deeds.{IsFor}
-use Rattle.curp_law_keepers.specs.BackupEffect.{BackupSays}
-use Rattle.curp_law_keepers.specs.WitnessEffect.{WitnessSays}
-use Rattle.curp_law_keepers.proofs.Backups.{backup_effect}
-use Rattle.curp_law_keepers.proofs.Witnesses.{witness_effect}
+use Rattle.curp_law_kept.specs.Deeds.{IsFor}
+use Rattle.curp_law_kept.specs.BackupEffect.{BackupSays}
+use Rattle.curp_law_kept.specs.WitnessEffect.{WitnessSays}
+use Rattle.curp_law_kept.proofs.BackupEffects.{backup_effect}
+use Rattle.curp_law_kept.proofs.WitnessEffects.{witness_effect}
 use Rattle.curp_base.proofs.Numbered.{numbered_same, numbered_set_same}
-use Rattle.curp_law_growth.proofs.Switches.{switching_little, switching_ordered_little}
-use Rattle.curp_law_growth.proofs.Worlds.{step_grows}
+use Rattle.curp_law_kept.proofs.Switches.{switching_little, switching_ordered_little}
+use Rattle.curp_law_kept.proofs.WorldsGrow.{step_grows}
 use Rattle.curp_law_kept.specs.ManagerEffect.{Uttered}
 use Rattle.curp_law_kept.proofs.Cases.{ByBackup, ByClient, ByManager, ByMaster, ByWitness, Rests, StepCase, Stays, step_case}
 use Rattle.curp_law_kept.proofs.Clients.{client_messages}

@@ -8,11 +8,11 @@ use Rattle.curp_order.specs.declared.Event.{Event}
 use Rattle.curp_model.specs.Manager.{Attempted, manager_input}
 use Rattle.curp_model.specs.World.{World, opening}
 use Rattle.curp_facts.specs.Facts.{WasSent}
-use Rattle.curp_law_growth.specs.Deeds.{IsFor}
+use Rattle.curp_law_kept.specs.Deeds.{IsFor}
 use Rattle.curp_facts.specs.Known.{Known}
 use Rattle.curp_facts.specs.Names.{Names}
-use Rattle.curp_law_names.proofs.Steps.{manager_moved, moved_messages}
-use Rattle.curp_law_stays.proofs.Words.{Follows}
+use Rattle.curp_law_kept.proofs.ManagerWorlds.{manager_moved, moved_messages}
+use Rattle.curp_law_kept.proofs.Words.{Follows}
 use Rattle.curp_facts.specs.Routes.{Routes}
 use Rattle.curp_law_runs.proofs.Orders.{manager_orders}
 use Rattle.curp_law_runs.proofs.Routes.{manager_keeps_routes}

@@ -10,9 +10,9 @@ use Rattle.curp_facts.specs.Facts.{HasLog, IsAnswered, hi_of, lo_of}
 use Rattle.curp_facts.specs.Invariant.{Invariant}
 use Rattle.curp_facts.specs.Reach.{Reach, SyncedSaid}
 use Rattle.curp_facts.specs.Said.{ReplyHolds, ReplySaid}
-use Rattle.curp_law_logs.specs.Standing.{StandsHere}
-use Rattle.curp_law_logs.proofs.Early.{stands_from_here, synced_stands}
-use Rattle.curp_law_logs.proofs.Standings.{stands_here}
+use Rattle.curp_law_kept.specs.Standing.{StandsHere}
+use Rattle.curp_law_kept.proofs.Early.{stands_from_here, synced_stands}
+use Rattle.curp_law_kept.proofs.Standings.{stands_here}
 use Rattle.curp_facts.specs.Names.{Names}
 use Rattle.curp_law_runs.specs.Answered.{AnsweredBy}
 use Rattle.curp_law_runs.proofs.Logs.{begins, reached}

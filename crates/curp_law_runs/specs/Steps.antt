@@ -9,7 +9,7 @@ use Rattle.curp_msg.specs.declared.message.Message.{Message}
 use Rattle.curp_order.specs.declared.Event.{Event}
 use Rattle.curp_model.specs.Manager.{manager_input, Attempted}
 use Rattle.curp_model.specs.World.{World, kept, messages, with_manager}
-use Rattle.curp_law_growth.specs.Deeds.{IsFor}
+use Rattle.curp_law_kept.specs.Deeds.{IsFor}
 
 -- the manager stays as it is, and one other node at most has said more
 pub record MovesBeside (w v : World) : Type 0 where

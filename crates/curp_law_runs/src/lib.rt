@@ -20,7 +20,7 @@ ghost use Rattle.curp_facts.specs.Nodes.{ValueWasSent, WasRead};
 ghost use Rattle.curp_msg.specs.Script.{IsRun, IsStep};
 ghost use Rattle.curp_facts.specs.Silence.{IsSilentIn};
 ghost use Rattle.curp_facts.specs.Fits.{GoesHome, IsBetweenNodes};
-ghost use Rattle.curp_law_trip.specs.Trip.{BringsApart, WitnessesAreApart};
+ghost use Rattle.curp_law_steps.specs.Trip.{BringsApart, WitnessesAreApart};
 ghost use Rattle.curp_model.specs.Client.{ClientState};
 ghost use Rattle.curp_model.specs.World.{messages, shape_of, step, world};
 ghost use Rattle.curp_msg.specs.declared.script.Header.{Header};

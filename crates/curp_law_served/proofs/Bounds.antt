@@ -6,7 +6,7 @@ use Rattle.curp_cmd.specs.declared.node.NodeId.{NodeId}
 use Rattle.curp_facts.specs.Nodes.{AcknowledgedOk, ServingOk}
 use Rattle.curp_model.specs.Master.{Acknowledged, MasterState, from_backup, least}
 use Rattle.curp_model.specs.World.{World}
-use Rattle.curp_law_quiet.specs.Grounds.{Bounded}
+use Rattle.curp_law_served.specs.Grounds.{Bounded}
 
 -- what it knows of a backup is within its log and its rounds
 pub record Within (m : MasterState) (a : Acknowledged) : Type 0 where

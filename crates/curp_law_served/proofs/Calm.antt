@@ -40,20 +40,20 @@ use Rattle.curp_model.specs.Recovery.{MasterStage, Serving, master_input}
 use Rattle.curp_range.specs.Spans.{Span}
 use Rattle.curp_model.specs.Named.{IsNode, IsNodeOf}
 use Rattle.curp_model.specs.World.{Gives, World, deed_of, invocation_of, is_stopped, kept, messages, moves, moves_one, result_of, step, steps_by, with_client, with_master}
-use Rattle.curp_law_growth.specs.After.{ClientAfter, ClientMoves, ClientStays}
-use Rattle.curp_law_growth.proofs.After.{step_after}
-use Rattle.curp_law_growth.proofs.Worlds.{step_grows}
+use Rattle.curp_law_kept.specs.After.{ClientAfter, ClientMoves, ClientStays}
+use Rattle.curp_law_kept.proofs.After.{step_after}
+use Rattle.curp_law_kept.proofs.WorldsGrow.{step_grows}
 use Rattle.curp_law_kept.proofs.Known.{fits}
 use Rattle.curp_law_kept.proofs.Steps.{known_step}
 use Rattle.curp_law_steps.specs.Named.{StopsNone}
 use Rattle.curp_law_steps.proofs.Moving.{its_result, only_moves, stops_only_by_stop}
-use Rattle.curp_law_quiet.specs.Calm.{Calm, FitsIn}
-use Rattle.curp_law_quiet.specs.Grounds.{Grounds, IsCalm}
-use Rattle.curp_law_quiet.specs.Learns.{ClientLearns, IsBehindEntry}
-use Rattle.curp_law_quiet.proofs.Laws.{delivers_on, none_left}
-use Rattle.curp_law_quiet.proofs.Learns.{learns_on, learnt_at_end}
-use Rattle.curp_law_quiet.proofs.Starts.{Gave, collect_calm, fetch_calm, gave, invoke_calm, invoked, sent_due, sync_calm}
-use Rattle.curp_law_quiet.proofs.Steps.{delivered}
+use Rattle.curp_law_served.specs.Calm.{Calm, FitsIn}
+use Rattle.curp_law_served.specs.Grounds.{Grounds, IsCalm}
+use Rattle.curp_law_served.specs.Learns.{ClientLearns, IsBehindEntry}
+use Rattle.curp_law_served.proofs.QuietLaws.{delivers_on, none_left}
+use Rattle.curp_law_served.proofs.Learns.{learns_on, learnt_at_end}
+use Rattle.curp_law_served.proofs.Starts.{Gave, collect_calm, fetch_calm, gave, invoke_calm, invoked, sent_due, sync_calm}
+use Rattle.curp_law_served.proofs.Steps.{delivered}
 use Rattle.curp_law_served.specs.Served.{most_steps}
 use Rattle.curp_law_served.proofs.Clients.{client_goes}
 use Rattle.curp_law_served.proofs.Followed.{Follows, IsServedStep, follows_step, served_input}
@@ -61,7 +61,7 @@ use Rattle.curp_law_served.proofs.Grounding.{Homes, grounds}
 use Rattle.curp_law_served.proofs.Made.{IsMade, delivery_made, delivery_next, gives_made}
 use Rattle.curp_law_served.proofs.Managers.{IsOlder}
 use Rattle.curp_law_served.proofs.Owning.{whole_owns}
-use Rattle.curp_law_served.proofs.Rounds.{input_within}
+use Rattle.curp_law_served.proofs.RoundsRise.{input_within}
 
 -- ---- who is stopped
 

@@ -16,9 +16,9 @@ use Rattle.curp_msg.specs.declared.script.Step.TheVariants as steps
 use Rattle.curp_msg.specs.Script.{IsHeader}
 use Rattle.curp_model.specs.Client.{ClientState}
 use Rattle.curp_model.specs.World.{World, messages, step}
-use Rattle.curp_law_growth.proofs.Worlds.{step_grows}
-use Rattle.curp_law_quiet.specs.Learns.{ClientLearns}
-use Rattle.curp_law_quiet.specs.Renews.{renewed}
+use Rattle.curp_law_kept.proofs.WorldsGrow.{step_grows}
+use Rattle.curp_law_served.specs.Learns.{ClientLearns}
+use Rattle.curp_law_served.specs.Renews.{renewed}
 use Rattle.curp_law_served.specs.Served.{AnsweredRequest, Served, and_then, answer_by, header_of, if_turn, in_turn, is_turn, makes, newest_in, quiets, replaces_master, serve, tidies, with_quieting}
 use Rattle.curp_law_served.proofs.Calm.{Serves, calmly, collect_learns, collect_made, collect_serves, deliver_learns, deliver_made, deliver_serves, fetch_learns, fetch_made, fetch_serves, invoke_learns, invoke_made, invoke_serves, its_client, learnt, sync_learns, sync_made, sync_serves}
 use Rattle.curp_law_served.proofs.Followed.{IsServedStep}

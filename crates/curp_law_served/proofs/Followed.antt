@@ -29,23 +29,23 @@ use Rattle.curp_model.specs.Client.{ClientState, client_input}
 use Rattle.curp_model.specs.Manager.{opening_config}
 use Rattle.curp_model.specs.Recovery.{MasterStage, master_input}
 use Rattle.curp_model.specs.World.{Gives, World, deed_of, delivery, messages, opening, opening_master, shape_of, step}
-use Rattle.curp_law_growth.specs.After.{After, BackupAfter, BackupMoves, BackupNew, BackupStays, ByBackup, ByClient, ByManager, ByMaster, ByWitness, ClientAfter, ClientMoves, ClientStays, ManagerAfter, ManagerMoves, ManagerStays, MasterAfter, MasterMoves, MasterNew, MasterStays, MessageAfter, SentBefore}
-use Rattle.curp_law_growth.specs.Deeds.{IsFor}
-use Rattle.curp_law_growth.proofs.After.{step_after}
-use Rattle.curp_law_growth.proofs.Worlds.{step_grows}
-use Rattle.curp_law_keepers.specs.BackupEffect.{BackupSays}
-use Rattle.curp_law_keepers.specs.WitnessEffect.{WitnessSays}
-use Rattle.curp_law_keepers.proofs.Backups.{backup_effect}
-use Rattle.curp_law_keepers.proofs.Witnesses.{witness_effect}
+use Rattle.curp_law_kept.specs.After.{After, BackupAfter, BackupMoves, BackupNew, BackupStays, ByBackup, ByClient, ByManager, ByMaster, ByWitness, ClientAfter, ClientMoves, ClientStays, ManagerAfter, ManagerMoves, ManagerStays, MasterAfter, MasterMoves, MasterNew, MasterStays, MessageAfter, SentBefore}
+use Rattle.curp_law_kept.specs.Deeds.{IsFor}
+use Rattle.curp_law_kept.proofs.After.{step_after}
+use Rattle.curp_law_kept.proofs.WorldsGrow.{step_grows}
+use Rattle.curp_law_kept.specs.BackupEffect.{BackupSays}
+use Rattle.curp_law_kept.specs.WitnessEffect.{WitnessSays}
+use Rattle.curp_law_kept.proofs.BackupEffects.{backup_effect}
+use Rattle.curp_law_kept.proofs.WitnessEffects.{witness_effect}
 use Rattle.curp_law_kept.proofs.Clients.{client_messages}
 use Rattle.curp_law_kept.proofs.Known.{fits, from_manager}
 use Rattle.curp_law_kept.proofs.MastersMoves.{heard_in, input_moves, speaker, stage_from}
 use Rattle.curp_law_kept.proofs.Steps.{known_step}
-use Rattle.curp_law_names.proofs.Lists.{among_each}
+use Rattle.curp_law_kept.proofs.NumberedLists.{among_each}
 use Rattle.curp_law_served.specs.Served.{StopsMaster, header_of}
 use Rattle.curp_law_served.proofs.Clients.{client_goes}
 use Rattle.curp_law_served.proofs.Managers.{Advances, IsOlder, IsPlain, IsServed, advances_self, manager_goes, older_later, plain_later}
-use Rattle.curp_law_served.proofs.Rounds.{IsWithin, higher, input_within}
+use Rattle.curp_law_served.proofs.RoundsRise.{IsWithin, higher, input_within}
 
 -- a step that a served run makes
 abbrev pub IsServedStep : Step → Type 0

@@ -26,8 +26,8 @@ use Rattle.curp_model.specs.Recovery.{Serving}
 use Rattle.curp_model.specs.World.{World}
 use Rattle.curp_law_kept.proofs.Known.{fits}
 use Rattle.curp_law_served.proofs.Homes.{witness_there}
-use Rattle.curp_law_quiet.specs.Calm.{Calm, IsUndelivered}
-use Rattle.curp_law_quiet.specs.Grounds.{Grounds, IsOurs, IsOurWitness, Roomy, Welcome}
+use Rattle.curp_law_served.specs.Calm.{Calm, IsUndelivered}
+use Rattle.curp_law_served.specs.Grounds.{Grounds, IsOurs, IsOurWitness, Roomy, Welcome}
 use Rattle.curp_model.specs.Log.{IsOp}
 use Rattle.curp_law_served.specs.Served.{most_steps}
 use Rattle.curp_law_served.proofs.Bounds.{bounded}

@@ -26,7 +26,7 @@ use Rattle.curp_model.specs.World.{Stepped, World, kept, opening, opening_client
 use Rattle.curp_law_kept.proofs.Steps.{known_opening}
 use Rattle.curp_law_linear.proofs.Laws.{history_all, order_all}
 use Rattle.curp_law_served.proofs.Homes.{backup_there}
-use Rattle.curp_law_quiet.specs.Calm.{Calm, IsUndelivered}
+use Rattle.curp_law_served.specs.Calm.{Calm, IsUndelivered}
 use Rattle.curp_law_served.specs.Served.{AnsweredRequest, Served, Limit, after_all, answer_behind, answer_by, answered, begun, header_of, in_turn, most_steps, requests, serve, serve_all}
 use Rattle.curp_law_served.proofs.Answers.{answered_push, asked_are, asked_of, last_answer, length_answered, order_is}
 use Rattle.curp_law_served.proofs.Calm.{Serves, calmly, invoked_as, its_client, rests}

@@ -22,15 +22,15 @@ use Rattle.curp_model.specs.Named.{IsNode, IsNodeOf}
 use Rattle.curp_model.specs.Recovery.{MasterStage, master_input}
 use Rattle.curp_model.specs.Witness.{WitnessState, witness_input}
 use Rattle.curp_model.specs.World.{Deed, Gives, World, deed_of, delivery, effect, has_node, is_lost, is_stopped, is_there, is_too_much, messages, moves, moves_kind, moves_one, names_nobody, names_stopped, refusal, result_of, step, stops_manager, subject, weight, with_backup, with_client, with_master, with_witness}
-use Rattle.curp_law_growth.specs.After.{ManagerAfter, ManagerMoves, ManagerStays}
-use Rattle.curp_law_growth.proofs.After.{step_after}
-use Rattle.curp_law_keepers.proofs.Backups.{backup_effect}
-use Rattle.curp_law_keepers.proofs.Witnesses.{witness_effect}
+use Rattle.curp_law_kept.specs.After.{ManagerAfter, ManagerMoves, ManagerStays}
+use Rattle.curp_law_kept.proofs.After.{step_after}
+use Rattle.curp_law_kept.proofs.BackupEffects.{backup_effect}
+use Rattle.curp_law_kept.proofs.WitnessEffects.{witness_effect}
 use Rattle.curp_law_steps.proofs.Moving.{its_result}
 use Rattle.curp_law_served.proofs.Clients.{client_told}
 use Rattle.curp_law_served.proofs.Followed.{Follows}
 use Rattle.curp_law_served.proofs.Managers.{manager_takes}
-use Rattle.curp_law_served.proofs.Rounds.{input_within}
+use Rattle.curp_law_served.proofs.RoundsRise.{input_within}
 
 -- it is made, or the messages weigh too much
 abbrev pub IsMade : World → Step → Type 0

@@ -30,9 +30,9 @@ use Rattle.curp_model.specs.World.{World}
 use Rattle.curp_law_kept.proofs.Known.{fits}
 use Rattle.curp_law_kept.proofs.MastersHeard.{backup_log_ok}
 use Rattle.curp_law_served.proofs.Homes.{backup_there, ordered_backup_home, witness_there}
-use Rattle.curp_law_quiet.specs.Calm.{IsUndelivered}
-use Rattle.curp_law_quiet.specs.Recovers.{TellsRecovered}
-use Rattle.curp_law_quiet.specs.Renews.{CanRecover, RenewGrounds}
+use Rattle.curp_law_served.specs.Calm.{IsUndelivered}
+use Rattle.curp_law_served.specs.Recovers.{TellsRecovered}
+use Rattle.curp_law_served.specs.Renews.{CanRecover, RenewGrounds}
 use Rattle.curp_law_served.specs.Served.{most_steps}
 use Rattle.curp_law_served.proofs.Followed.{Follows}
 use Rattle.curp_law_served.proofs.Grounding.{given_ok, named_by, op_of}

@@ -15,8 +15,8 @@ use Rattle.curp_facts.specs.ClientNumbers.{IsUncompleted, ClientNumbersOk}
 use Rattle.curp_facts.specs.Kept.{HasCompletedBelow}
 use Rattle.curp_facts.specs.Nodes.{ServingOk}
 use Rattle.curp_facts.specs.Reach.{Tells}
-use Rattle.curp_law_logs.proofs.Noted.{known_stands}
-use Rattle.curp_law_masters.proofs.Completed.{stale_completed}
+use Rattle.curp_law_kept.proofs.Noted.{known_stands}
+use Rattle.curp_law_kept.proofs.Completed.{stale_completed}
 use Rattle.curp_model.specs.declared.Check.{Check}
 use Rattle.curp_model.specs.declared.Check.TheVariants.{Expired, Stale, Known, New}
 use Rattle.curp_model.specs.Client.{ClientState, Pending}
@@ -25,7 +25,7 @@ use Rattle.curp_model.specs.Master.{MasterState, state_of}
 use Rattle.curp_model.specs.Table.{Noted, Table, check, first_number, is_gone, known}
 use Rattle.curp_model.specs.World.{World}
 use Rattle.curp_cmd.specs.Node.{master_node}
-use Rattle.curp_law_quiet.specs.Grounds.{IsFine}
+use Rattle.curp_law_served.specs.Grounds.{IsFine}
 
 -- ---- a log of ops alone: no client is gone, and the range is that of the beginning
 

@@ -5,12 +5,14 @@
 //! by the call.
 //!
 //! `specs/Served.antt` says which steps are made, and is all that one reads to believe it: `serve`, and `after`, the
-//! state behind commands. The laws of `curp_law_quiet` carry it. `proofs/Followed.antt` has what served runs keep
-//! beside what every script keeps, with `Rounds`, `Managers` and `Clients` for one input; `Grounding` and `Renewing`
+//! state behind commands. The laws of `quiet` carry it. `proofs/Followed.antt` has what served runs keep
+//! beside what every script keeps, with `RoundsRise`, `Managers` and `Clients` for one input; `Grounding` and `Renewing`
 //! give the laws of quieting what they take, with `Bounds`, `Welcomes` and `Owning`; `Made` says that no step is
 //! refused but for weight, `Calm` and `Recovery` what a step leaves of the world, `History` of the history, `Turns` and
 //! `Commands` of the parts of a command; `InTurn` and `Answers` have the answers from the order, `Laws` all commands.
 #![tactic(auto)]
+
+pub mod quiet;
 
 ghost use Rattle.std.specs.Prelude.{◌≡◌, ℕ, List, [], ◌∷◌, ◌++◌, Some, None};
 ghost use Rattle.curp_base.specs.Words.{Each, IsPrefix};

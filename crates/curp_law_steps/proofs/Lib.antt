@@ -1,3 +1,14 @@
 pub mod Events
 pub mod Moving
 pub mod Results
+pub mod Searches
+pub mod Orders
+pub mod Verdicts
+pub mod Inputs
+pub mod Numbers
+pub mod Deliveries
+pub mod AnyOrder
+pub mod Trips
+pub mod Apart
+pub mod OpeningOwners
+pub mod Opening

@@ -1,1 +1,5 @@
 pub mod Named
+pub mod Holding
+pub mod Trip
+pub mod Reading
+pub mod Meeting

@@ -1,6 +1,13 @@
-//! What one step of any world may change, and why a step isn't made. There is no code here: a law is the contract of a
-//! function with nothing in it, and a caller has the law by the call.
+//! What one step of any world may change, and why a step isn't made; and, in `trip`, what one round trip of single nodes
+//! completes. There is no code here: a law is the contract of a function with nothing in it, and a caller has the law by
+//! the call.
+//!
+//! `proofs/Events`, `Moving` and `Results` are of a step; `Verdicts` is of a witness's answers, `Trips` of a trip, with
+//! `AnyOrder`, `Orders`, `Searches`, `Inputs` and `Deliveries` for answers that come in any order; `Numbers` and `Apart`
+//! are of the premises that stay, `Opening` of those that an opening meets.
 #![tactic(auto)]
+
+pub mod trip;
 
 ghost use Rattle.std.specs.Prelude.{◌≡◌, ◌≢◌, ◌↔◌, ◌+◌, ◌<◌, ◌≤◌, ℕ, length, true, Some};
 ghost use Rattle.curp_base.specs.Words.{numbered};

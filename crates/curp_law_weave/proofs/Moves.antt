@@ -25,8 +25,8 @@ use Rattle.curp_model.specs.Witness.{WitnessState, witness_input}
 use Rattle.curp_model.specs.World.{Deed, Gives, Stepped, Stops, World, deed_of, delivery, effect, events_of, has_node, is_lost, is_stopped, is_too_much, kept, messages, moves, moves_kind, moves_one, names_nobody, result_of, step, steps_by, stops_manager, subject, weight}
 use Rattle.curp_msg.specs.Limits.{weight_limit}
 use Rattle.curp_model.proofs.Batches.{all_of-kept}
-use Rattle.curp_law_growth.specs.After.{After, ClientStays, ClientMoves, MasterStays, MasterMoves, MasterNew, BackupStays, BackupMoves, BackupNew, WitnessStays, WitnessMoves, WitnessNew}
-use Rattle.curp_law_growth.proofs.After.{step_after}
+use Rattle.curp_law_kept.specs.After.{After, ClientStays, ClientMoves, MasterStays, MasterMoves, MasterNew, BackupStays, BackupMoves, BackupNew, WitnessStays, WitnessMoves, WitnessNew}
+use Rattle.curp_law_kept.proofs.After.{step_after}
 use Rattle.curp_law_steps.specs.Named.{StopsNone}
 use Rattle.curp_law_steps.proofs.Moving.{OnlyMoves, Spares, only_moves, stops_only_by_stop}
 use Rattle.curp_law_steps.proofs.Results.{done}

@@ -12,7 +12,7 @@ pub use curp_law_runs::{
 pub use curp_law_steps::{
     a_step_is_one_event, full_changes_nothing, only_the_named_node_moves, results_have_causes,
 };
-pub use curp_law_trip::{
+pub use curp_law_steps::trip::{
     one_round_trip, one_round_trip_read, premises_stay, read_trip_can_be_met, rejected_exactly,
     trip_can_be_met,
 };

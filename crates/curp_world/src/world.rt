@@ -6,7 +6,7 @@ ghost use Rattle.curp_script.specs.declared.error.FieldName.{FieldName};
 ghost use Rattle.curp_script.specs.Headers.{bad_field};
 ghost use Rattle.curp_facts.specs.Kept.{Kept};
 ghost use Rattle.curp_msg.specs.Script.{IsStep};
-ghost use Rattle.curp_law_line.specs.Line.{StandsIn};
+ghost use Rattle.curp_law_linear.specs.Line.{StandsIn};
 ghost use Rattle.curp_law_linear.specs.Grows.{completed_in_order};
 ghost use Rattle.curp_model.specs.Causes.{IsLight, IsRunning, IsSent, IsThere, SparesManager};
 ghost use Rattle.curp_model.specs.World as world;

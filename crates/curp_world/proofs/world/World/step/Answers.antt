@@ -1,5 +1,5 @@
 use Rattle.std.proofs.Common.{◌≡◌, ◌≢◌, ◌↔◌, ℕ, true, subst, IfOk, OnErr, OnOk}
-use Rattle.curp_law_line.specs.Line.{StandsIn}
+use Rattle.curp_law_linear.specs.Line.{StandsIn}
 use Rattle.curp_law_linear.specs.Grows.{completed_in_order}
 use Rattle.curp_model.specs.Causes.{IsLight, IsRunning, IsSent, IsThere, SparesManager}
 use Rattle.curp_model.specs.World as world

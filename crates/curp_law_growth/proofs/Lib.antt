@@ -1,9 +1,0 @@
-pub mod Deeds
-pub mod Keepers
-pub mod Masters
-pub mod Switches
-pub mod Recoveries
-pub mod Managers
-pub mod Worlds
-pub mod After
-pub mod Reached

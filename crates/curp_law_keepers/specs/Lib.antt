@@ -1,4 +1,0 @@
-pub mod Brought
-pub mod BackupEffect
-pub mod WitnessEffect
-pub mod ClientEffect

@@ -1,6 +1,0 @@
-use Rattle.curp_law_line.proofs.Discharged.{pure, second}
-use Rattle.curp_law_line.proofs.Keeps.{all_keep}
-use Rattle.curp_law_line.proofs.all_moves_keep.Goals as goal
-
-pub returns : goal.returns
-returns c = λ s ms fits ok. all_keep pure second ms s fits ok

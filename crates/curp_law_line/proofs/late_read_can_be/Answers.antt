@@ -1,5 +1,0 @@
-use Rattle.curp_law_line.proofs.LateRead.{late_moves_fit, late_order}
-use Rattle.curp_law_line.proofs.late_read_can_be.Goals as goal
-
-pub returns : goal.returns
-returns c = record { fit = λ key value. late_moves_fit key value; order = λ key value. late_order key value }

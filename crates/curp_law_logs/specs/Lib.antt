@@ -1,4 +1,0 @@
-pub mod Hashes
-pub mod Standing
-pub mod Gives
-pub mod Migrations

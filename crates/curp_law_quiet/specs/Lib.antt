@@ -1,6 +1,0 @@
-pub mod Ways
-pub mod Calm
-pub mod Grounds
-pub mod Recovers
-pub mod Renews
-pub mod Learns

@@ -1,4 +1,0 @@
-pub mod Holding
-pub mod Trip
-pub mod Reading
-pub mod Meeting
