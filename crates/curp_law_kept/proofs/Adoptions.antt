@@ -59,7 +59,7 @@ module _ {w : World} (n : Names w) (p : ℕ) (now new : PartConfig)
   abbrev is_adopted : WasAdopted after its
   is_adopted = record {
     given = given_later later its given;
-    told = inr (sent_now w after move.messages (moved_messages w adopted events move) (adopted_message new) (record { place = 0; stands = refl }));
+    told = inr (sent_now w after move.messages (moved_messages w adopted events move) {m = adopted_message new} (record { place = 0; stands = refl }));
   }
 
   moves : Move w after (Adoption its)

@@ -31,7 +31,7 @@ use Rattle.curp_facts.specs.Known.{Known}
 use Rattle.curp_law_kept.proofs.Known.{from_manager, said}
 use Rattle.curp_facts.specs.Names.{InstallOk, RecoverOrderOk}
 use Rattle.curp_law_kept.proofs.Nodes.{backup_ok_later}
-use Rattle.curp_law_kept.proofs.Words.{Follows, given_later, log_later, sent_later}
+use Rattle.curp_law_kept.proofs.Words.{Follows, given_stays, log_later, sent_later}
 
 module _ {w v : World} (known : Known w) (s : Follows w v) (n : ℕ) (given : Input) (for : IsFor w (backup_node n) given) (b c : BackupState)
     (was : IsBackup w (backup_node n) b) (is : IsBackup v (backup_node n) c) where
@@ -50,7 +50,7 @@ module _ {w v : World} (known : Known w) (s : Follows w v) (n : ℕ) (given : In
   appended_says place to a ok =
       let sent = append_came to ok.append ok.came in
       let its : AppendSaid w to (backup_node n) ok.append = said known to (backup_node n) (body.Append ok.append) sent in (
-        record { lists = its.lists; given = given_later s its.given; its_master = its.its_master; its_epoch = its.its_epoch ∙ sym ok.epoch; its_backup = its.its_backup },
+        record { lists = its.lists; given = given_stays s its.given; its_master = its.its_master; its_epoch = its.its_epoch ∙ sym ok.epoch; its_backup = its.its_backup },
         stored_says to a ok.append sent ok.epoch ok.round a.answer ok.answer,
       )
 
@@ -68,7 +68,7 @@ module _ {w v : World} (known : Known w) (s : Follows w v) (n : ℕ) (given : In
         its_log = sym k.its_log;
         fenced = omega (arith, k.fenced);
         lists = home.before;
-        given = given_later s home.was.given;
+        given = given_stays s home.was.given;
         its_backup = subst (λ (x : NodeId). IsAmong x home.before.backups) named home.its_backup;
         earlier = omega (arith, home.earlier, epoch);
       }

@@ -13,7 +13,7 @@ use Rattle.curp_model.specs.World.{World}
 use Rattle.curp_facts.specs.Entries.{EntryOk, LogOk, RequestOk, UpdateOk}
 use Rattle.curp_facts.specs.Facts.{WasOrdered, hi_of, lo_of}
 use Rattle.curp_facts.specs.Kept.{AllCompletedBelow, HasCompletedBelow, RefusalFirstOk}
-use Rattle.curp_law_kept.proofs.Words.{Follows, event_at, given_later, hi_later, lo_later, sent_later}
+use Rattle.curp_law_kept.proofs.Words.{Follows, event_at, given_stays, hi_later, lo_later, sent_later}
 
 module _ {w v : World} (s : Follows w v) where
   abbrev pub below_later : (client first : ℕ) → HasCompletedBelow w client first → HasCompletedBelow v client first
@@ -31,7 +31,7 @@ module _ {w v : World} (s : Follows w v) where
   abbrev pub ordered_later : {part : ℕ} {b : Body} → WasOrdered w part b → WasOrdered v part b
   ordered_later ok = record {
     node = ok.node;
-    is = record { lists = ok.is.lists; given = given_later s ok.is.given; its_master = ok.is.its_master; its_part = ok.is.its_part };
+    is = record { lists = ok.is.lists; given = given_stays s ok.is.given; its_master = ok.is.its_master; its_part = ok.is.its_part };
     sent = sent_later s ok.sent;
   }
 

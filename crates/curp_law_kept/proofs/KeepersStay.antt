@@ -26,7 +26,7 @@ use Rattle.curp_facts.specs.Growth.{BackupGrows, Dropped}
 use Rattle.curp_facts.specs.Nodes.{BackupOk}
 use Rattle.curp_facts.specs.Reach.{BackupIsThere}
 use Rattle.curp_facts.specs.Said.{AcceptedSaid, AppendHolds, AppendSaid, AppendedSaid, ProbedSaid}
-use Rattle.curp_law_kept.proofs.Words.{Follows, backup_later, given_later, log_later, one_state, sent_later, there, witness_later, event_at}
+use Rattle.curp_law_kept.proofs.Words.{Follows, backup_later, given_stays, log_later, one_state, sent_later, there, witness_later, event_at}
 use Rattle.curp_msg.specs.declared.body.Probed.{Probed}
 
 -- the backups of lists that were given are as their master has them
@@ -39,7 +39,7 @@ module _ {w v : World} (s : Follows w v) where
       let o = log_later s from ok.holds.l ok.holds.its_log in
       record {
         lists = ok.lists;
-        given = given_later s ok.given;
+        given = given_stays s ok.given;
         its_master = ok.its_master;
         its_epoch = ok.its_epoch;
         its_backup = ok.its_backup;
@@ -48,7 +48,7 @@ module _ {w v : World} (s : Follows w v) where
       }
 
   abbrev pub appended_later : (from to : NodeId) (a : Appended) → AppendedSaid w from to a → AppendedSaid v from to a
-  appended_later from to a ok = record { lists = ok.lists; given = given_later s ok.given; its_master = ok.its_master; its_epoch = ok.its_epoch; its_backup = ok.its_backup }
+  appended_later from to a ok = record { lists = ok.lists; given = given_stays s ok.given; its_master = ok.its_master; its_epoch = ok.its_epoch; its_backup = ok.its_backup }
 
   pub append_holds_later : (from to : NodeId) (a : Appended) (answer : AppendAnswer) → AppendHolds w from to a answer → AppendHolds v from to a answer
   append_holds_later from to a (Stored long) ok =
@@ -137,7 +137,7 @@ module _ {w v : World} (s : Follows w v) where
         its_log = fenced_stays backups ok.lists ok.given from ok.its_backup ok.b o.0 ok.is o.1 (omega (arith, ok.earlier, ok.fenced)) ∙ ok.its_log;
         fenced = omega (arith, ok.fenced, o.2.fence);
         lists = ok.lists;
-        given = given_later s ok.given;
+        given = given_stays s ok.given;
         its_backup = ok.its_backup;
         earlier = ok.earlier;
       }

@@ -1,8 +1,8 @@
 -- The world after an input to the manager.
-use Rattle.std.proofs.Common.{replicate, ◌≡◌, ◌≤◌, ◌⊎◌, inl, inr, ℕ, ◌+◌, ◌-◌, List, ◌++◌, length, sym, ◌∙◌, ap, subst, arith, length-append, Option}
+use Rattle.std.proofs.Common.{replicate, ◌≡◌, ◌≤◌, ◌⊎◌, inl, inr, ℕ, ◌+◌, ◌-◌, List, ◌++◌, length, refl, sym, ◌∙◌, ap, subst, arith, length-append, Option}
 use Rattle.std.proofs.lemmas.List.{length-replicate}
 use Rattle.curp_base.specs.Words.{At, Each}
-use Rattle.curp_base.proofs.Lists.{at_append, at_append_cases, Each-at}
+use Rattle.curp_base.proofs.Lists.{at_append, at_append_cases, at_append_right, Each-at}
 use Rattle.curp_cmd.specs.Node.{manager_node}
 use Rattle.curp_cmd.specs.declared.node.NodeId.{NodeId}
 use Rattle.curp_msg.specs.Moved.{Moved, says, within}
@@ -14,7 +14,6 @@ use Rattle.curp_model.specs.World.{World, grown, kept, messages, with_manager}
 use Rattle.curp_facts.specs.Facts.{IsAmong, WasSent}
 use Rattle.curp_facts.specs.Names.{Names, NumbersOk}
 use Rattle.curp_law_kept.proofs.Later.{Later}
-use Rattle.curp_law_kept.proofs.NumberedLists.{among_right}
 use Rattle.curp_law_kept.proofs.Moves.{Fresh, Move, Utters}
 use Rattle.curp_model.proofs.Batches.{all_of-kept}
 
@@ -25,14 +24,19 @@ module _ (w v : World) (out : List Message) (e : messages v ≡ messages w ++ ou
   pub sent_later : (m : Message) → WasSent w m → WasSent v m
   sent_later m was = record { place = was.place; stands = subst (λ (ms : List Message). At ms was.place m) (sym e) (at_append (messages w) out was.place m was.stands) }
 
+  -- what was sent afterwards was sent before, or is among them
   pub sent_cases : (m : Message) → WasSent v m → WasSent w m ⊎ IsAmong m out
   sent_cases m was = elim (at_append_cases (messages w) out was.place m (subst (λ (ms : List Message). At ms was.place m) e was.stands)) [
     | inl h ↦ inl (record { place = was.place; stands = h })
     | inr h ↦ inr (record { place = h.0; stands = h.2 })
   ]
 
-  pub sent_now : (m : Message) → IsAmong m out → WasSent v m
-  sent_now m a = let b = among_right (messages w) out m a in record { place = b.place; stands = subst (λ (ms : List Message). At ms b.place m) (sym e) b.stands }
+  -- what is among them was sent, at its place behind all others
+  abbrev pub sent_now : {m : Message} → IsAmong m out → WasSent v m
+  sent_now {m} a = record {
+    place = length (messages w) + a.place;
+    stands = subst (λ (ms : List Message). At ms (length (messages w) + a.place) m) (sym e) (at_append_right (messages w) out a.place (length (messages w) + a.place) m refl a.stands);
+  }
 
 -- a node of whose messages each one is uttered
 pub uttered : (w v : World) (f : Fresh) (out : List Message) → messages v ≡ messages w ++ out → Each (λ (m : Message). Utters w v f m.to m.body) out

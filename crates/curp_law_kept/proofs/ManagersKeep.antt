@@ -22,7 +22,7 @@ use Rattle.curp_model.specs.Manager.{Attempted, ManagerState, Migration, manager
 use Rattle.curp_model.specs.Named.{IsBackup, IsMaster, IsWitness}
 use Rattle.curp_model.specs.Recovery.{Fresh, MasterStage}
 use Rattle.curp_model.specs.Witness.{WitnessState, fresh_witness}
-use Rattle.curp_model.specs.World.{Gives, World, completion, events_of, grown, messages}
+use Rattle.curp_model.specs.World.{World, completion, grown, messages}
 use Rattle.curp_facts.specs.ClientNumbers.{ClientNumbersOk}
 use Rattle.curp_facts.specs.Facts.{IsAdoptedNow, IsAmong, IsGiven, HasLog, Lists, WasOrdered, WasSent}
 use Rattle.curp_facts.specs.Growth.{Grows}
@@ -34,17 +34,17 @@ use Rattle.curp_facts.specs.Known.{Known}
 use Rattle.curp_law_kept.proofs.Known.{fits, knows_later}
 use Rattle.curp_law_kept.proofs.ManagersDo.{manager_does}
 use Rattle.curp_law_kept.proofs.ManagersReady.{from_all, given_cases, manager_follows, other_kind, other_sent}
-use Rattle.curp_law_kept.proofs.Moved.{messages_say, says_no_more, sent_now}
+use Rattle.curp_law_kept.proofs.Moved.{messages_say, says_no_more}
 use Rattle.curp_facts.specs.Names.{IsOf, Names}
 use Rattle.curp_facts.specs.Fits.{sender_kind}
 use Rattle.curp_law_kept.proofs.Later.{Later}
 use Rattle.curp_law_kept.proofs.NumberedLists.{among_each}
-use Rattle.curp_law_kept.proofs.ManagerWorlds.{manager_moved, moved_messages}
+use Rattle.curp_law_kept.proofs.ManagerWorlds.{manager_moved, moved_messages, sent_now}
 use Rattle.curp_law_kept.proofs.Entries.{ordered_later}
 use Rattle.curp_law_kept.proofs.MastersStay.{master_ok_later}
 use Rattle.curp_law_kept.proofs.Nodes.{backup_ok_later, completed_by_later, read_later, witness_ok_later}
 use Rattle.curp_law_kept.proofs.Said.{says_later}
-use Rattle.curp_law_kept.proofs.Words.{Follows, given_later, ready_later, sent_later}
+use Rattle.curp_law_kept.proofs.Words.{Follows, given_stays, ready_later, sent_later}
 use Rattle.curp_base.proofs.Numbered.{number_within, place as place_of}
 
 -- what stands among grown nodes was there, or is fresh and wasn't
@@ -123,7 +123,7 @@ module _ {w : World} (known : Known w) (given : Input) (for : IsFor w manager_no
 
     -- lists of the same master, if not these were given before
     home : (l k : Lists) → IsGiven v l → IsGiven w k → k.master ≡ l.master → k.epoch ≡ l.epoch
-    home l k gl gk same = ((names.agree k l (given_later follows gk) gl).by_master same).1
+    home l k gl gk same = ((names.agree k l (given_stays follows gk) gl).by_master same).1
 
     backups_keep : (l : Lists) → IsGiven v l → (node : NodeId) → IsAmong node l.backups → (b : BackupState) → IsBackup v node b → BackupOk v l b
     backups_keep l given node named b is = elim (grown_cases w.backups fresh_backup r.state.next.backup node.number b is.its_state) [
@@ -171,7 +171,7 @@ module _ {w : World} (known : Known w) (given : Input) (for : IsFor w manager_no
       | inl was ↦ ordered_later follows was
       | inr now ↦ record {
         node = now.0;
-        is = record { lists = now.1.lists; given = given_later follows now.1.given; its_master = now.1.its_master; its_part = now.1.its_part };
+        is = record { lists = now.1.lists; given = given_stays follows now.1.given; its_master = now.1.its_master; its_part = now.1.its_part };
         sent = sent_now w v r.messages sent_is now.2;
       }
     ]

@@ -21,7 +21,8 @@ use Rattle.curp_facts.specs.Said.{RecoveredSaid}
 use Rattle.curp_law_kept.specs.ManagerEffect.{NewNodes, OrdersOnce, Uttered}
 use Rattle.curp_facts.specs.Known.{Known}
 use Rattle.curp_law_kept.proofs.Known.{said}
-use Rattle.curp_law_kept.proofs.Moved.{sent_back, sent_cases}
+use Rattle.curp_law_kept.proofs.ManagerWorlds.{sent_cases}
+use Rattle.curp_law_kept.proofs.Moved.{sent_back}
 use Rattle.curp_facts.specs.Names.{Names, RecoverOrderOk, PrepareOk}
 use Rattle.curp_law_kept.proofs.Later as names
 use Rattle.curp_law_kept.proofs.Later.{Later}

@@ -8,16 +8,10 @@ use Rattle.std.specs.declared.cmp.Ordering.TheVariants.{Less, Equal, Greater}
 use Rattle.std.proofs.lemmas.Bool.{cases_lt, cond_both, or_left, or_right}
 use Rattle.std.proofs.lemmas.Bool.Decides.{nat_tests}
 use Rattle.curp_base.specs.Words.{Each}
-use Rattle.curp_base.proofs.Lists.{Each-from_at}
 use Rattle.curp_cmd.specs.RequestId.{same_id}
 use Rattle.curp_cmd.specs.declared.command.RequestId.{RequestId}
 use Rattle.curp_cmd.proofs.Ids.{same_id-true}
-use Rattle.curp_facts.specs.Facts.{IsAmong}
 use Rattle.curp_model.specs.Master.{Queued, has, queued}
-
--- what holds of all that is among them
-pub each_among : {A : Type 0} (P : A → Type 0) (xs : List A) → ((x : A) → IsAmong x xs → P x) → Each P xs
-each_among P xs all = Each-from_at P xs (λ k x at. all x (record { place = k; stands = at }))
 
 -- of the sorted numbers with one more
 pub each_inserted : (P : ℕ → Type 0) (index : ℕ) → P index → (xs : List ℕ) → Each P xs → Each P (insert_key nat_cmp xs index)

@@ -28,14 +28,14 @@ use Rattle.curp_law_kept.proofs.Known.{from_manager, said}
 use Rattle.curp_law_kept.proofs.MastersHeard.{order_lowest}
 use Rattle.curp_law_kept.proofs.MastersMoves.{GetsOrder, MasterStep, StageMove, StartsToServe}
 use Rattle.curp_law_kept.proofs.MastersReady.{next_given, no_switch, step_follows}
-use Rattle.curp_law_kept.proofs.Moved.{sent_cases, sent_now}
+use Rattle.curp_law_kept.proofs.ManagerWorlds.{sent_cases, sent_now}
 use Rattle.curp_law_kept.specs.Moves.{Begins, IsSaidBy, ListsMove, Prepares, RecoveryMove, RecoverySays, SaysAll, SaysPrepared, ServingMove, ServingSays, Stays, TakesUp}
 use Rattle.curp_law_kept.specs.Stages.{FreshSays}
 use Rattle.curp_facts.specs.Names.{AdoptedOk, RecoverOrderOk}
 use Rattle.curp_law_kept.proofs.NumberedLists.{among_each}
 use Rattle.curp_law_kept.proofs.Entries.{log_ok_later}
 use Rattle.curp_law_kept.proofs.MastersStay.{acknowledged_later, captures_later, stage_later}
-use Rattle.curp_law_kept.proofs.Words.{Follows, adopted_later, hi_later, lo_later, one_state, sent_later}
+use Rattle.curp_law_kept.proofs.Words.{Follows, adopted_stays, hi_later, lo_later, one_state, sent_later}
 use Rattle.curp_law_kept.proofs.Acknowledging.{one_switch}
 
 module _ {w v : World} (known : Known w) {n : ℕ} {from : NodeId} {heard : Option Body} {m k : MasterStage} {out : List Message} (s : MasterStep w v n from heard m k out) where
@@ -138,7 +138,7 @@ module _ {w v : World} (known : Known w) {n : ℕ} {from : NodeId} {heard : Opti
       let by = move.begins.ordered in
       let home = order_home x ok y by in
       record {
-        adopted = adopted_later f (told_adopted move.a move.sent (lists_of_master (master_node n) y) (order_given x ok y by) refl
+        adopted = adopted_stays f (told_adopted move.a move.sent (lists_of_master (master_node n) y) (order_given x ok y by) refl
             (order_version x ok y by move.a (said known manager_node (master_node n) (body.Adopted move.a) move.sent)));
         lo = by.lo ∙ home.its_lo ∙ ap (lo_of w) (sym by.part) ∙ sym (lo_later f y.part);
         hi = by.hi ∙ home.its_hi ∙ ap (hi_of w) (sym by.part) ∙ sym (hi_later f y.part);
@@ -281,7 +281,7 @@ module _ {w v : World} (known : Known w) {n : ℕ} {from : NodeId} {heard : Opti
 
     serving_keeps : ServingOk v (master_node n) y
     serving_keeps = record {
-      adopted = adopted_later f lists_adopted;
+      adopted = adopted_stays f lists_adopted;
       lo = goes_on.lo ∙ ok.lo ∙ ap (lo_of w) (sym goes_on.part) ∙ sym (lo_later f y.part);
       hi = goes_on.hi ∙ ok.hi ∙ ap (hi_of w) (sym goes_on.part) ∙ sym (hi_later f y.part);
       log = log_ok_later f y.part y.log (subst (λ (p : ℕ). LogOk w p y.log) (sym goes_on.part) move.log);

@@ -26,11 +26,12 @@ use Rattle.curp_law_kept.proofs.Known.{said}
 use Rattle.curp_law_kept.proofs.MastersHeard.{backup_prefix, one_log, serving_log}
 use Rattle.curp_law_kept.proofs.MastersMoves.{MasterStep}
 use Rattle.curp_law_kept.proofs.MastersReady.{next_given, no_switch, step_follows}
-use Rattle.curp_law_kept.proofs.Moved.{at_back, sent_now}
+use Rattle.curp_law_kept.proofs.ManagerWorlds.{sent_now}
+use Rattle.curp_law_kept.proofs.Moved.{at_back}
 use Rattle.curp_law_kept.specs.Moves.{AppendSays, Begins, HasAcknowledged, IsSaidBy, ListsMove, Prepares, PreparedSays, ServingMove, ServingSays, Stays, TakesUp}
 use Rattle.curp_law_kept.proofs.Synced.{acknowledged_many}
 use Rattle.curp_law_kept.proofs.Prepared.{prepared_later}
-use Rattle.curp_law_kept.proofs.Words.{Follows, given_later, message_at, one_state}
+use Rattle.curp_law_kept.proofs.Words.{Follows, given_stays, message_at, one_state}
 use Rattle.curp_law_kept.proofs.Acknowledging.{one_switch}
 
 -- ---- lists
@@ -179,7 +180,7 @@ module _ {w v : World} (known : Known w) {n : ℕ} {from : NodeId} {heard : Opti
     first_says : PreparedOk v (master_node n) version
     first_says = record {
       lists = next;
-      given = given_later f given;
+      given = given_stays f given;
       its_master = refl;
       its_version = its_version;
       l = record { log = y.log; round = y.round };

@@ -24,7 +24,8 @@ use Rattle.curp_law_kept.proofs.Apart.{not_both}
 use Rattle.curp_facts.specs.Known.{Known}
 use Rattle.curp_law_kept.proofs.MastersHeard.{one_log}
 use Rattle.curp_law_kept.proofs.MastersMoves.{MasterStep, StageMove}
-use Rattle.curp_law_kept.proofs.Moved.{given_back, sent_back, sent_cases}
+use Rattle.curp_law_kept.proofs.ManagerWorlds.{sent_cases}
+use Rattle.curp_law_kept.proofs.Moved.{given_back, sent_back}
 use Rattle.curp_law_kept.specs.Moves.{Begins, IsSaidBy, ListsMove, Prepares, PreparedSays, RecoverySays, ServingMove, ServingSays, Stays, TakesUp}
 use Rattle.curp_law_kept.specs.Stages.{FreshSays}
 use Rattle.curp_law_kept.proofs.Among.{each_tested, found_among}

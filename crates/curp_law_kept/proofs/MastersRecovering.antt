@@ -31,7 +31,7 @@ use Rattle.curp_law_kept.specs.Moves.{IsWholeLog, RecoverySays}
 use Rattle.curp_facts.specs.Names.{RecoverOrderOk}
 use Rattle.curp_law_kept.proofs.Entries.{refusal_later}
 use Rattle.curp_law_kept.proofs.Nodes.{backup_ok_later}
-use Rattle.curp_law_kept.proofs.Words.{Follows, given_later}
+use Rattle.curp_law_kept.proofs.Words.{Follows, given_stays}
 
 module _ {w v : World} (known : Known w) {n : ℕ} {from : NodeId} {heard : Option Body} {m : MasterStage} {t : RecoveryState} {out : List Message} (s : MasterStep w v n from heard m (Recovering t) out)
     (stage : StageOk w t t.phase) where
@@ -67,7 +67,7 @@ module _ {w v : World} (known : Known w) {n : ℕ} {from : NodeId} {heard : Opti
       go : (p : RecoveryPhase) → t.phase ≡ p → IsWholeLog p a → AppendSaid v (master_node n) to a
       go (Storing r) is whole = record {
         lists = lists;
-        given = given_later f given;
+        given = given_stays f given;
         its_master = refl;
         its_epoch = sym k.0;
         its_backup = k.2;

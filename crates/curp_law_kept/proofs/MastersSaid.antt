@@ -24,7 +24,7 @@ use Rattle.curp_law_kept.proofs.MastersSay.{append_says, entry_says, gc_says, gi
 use Rattle.curp_law_kept.specs.Moves.{IsSaidBy, PreparedSays, RecoverySays, ServingSays}
 use Rattle.curp_law_kept.specs.Stages.{FreshSays}
 use Rattle.curp_law_kept.proofs.Entries.{refusal_later}
-use Rattle.curp_law_kept.proofs.Moved.{sent_now}
+use Rattle.curp_law_kept.proofs.ManagerWorlds.{sent_now}
 
 module _ {w v : World} (known : Known w) {n : ℕ} {from : NodeId} {heard : Option Body} where
   -- ---- by how far it is

@@ -1,5 +1,5 @@
 -- What a serving master says by an input is so.
-use Rattle.std.proofs.Common.{◌≡◌, ◌⊎◌, inl, inr, ℕ, ◌+◌, ◌-◌, ◌<◌, ◌≤◌, Bool, true, false, cond, List, [], ◌∷◌, length, drop, take, map, nat_le, not, refl, ap, sym, ◌∙◌, subst, arith, Option, ◌&&◌, Some}
+use Rattle.std.proofs.Common.{◌≡◌, ◌⊎◌, inl, inr, ℕ, ◌+◌, ◌-◌, ◌<◌, ◌≤◌, Bool, true, false, cond, List, [], ◌∷◌, length, drop, take, map, nat_le, not, refl, ap, sym, ◌∙◌, subst, arith, Option, ◌&&◌}
 use Rattle.std.proofs.lemmas.Bool.Decides.{nat_tests}
 use Rattle.std.proofs.lemmas.List.{length-drop}
 use Rattle.curp_base.specs.Words.{At, Each, IsPrefix}
@@ -42,13 +42,13 @@ use Rattle.curp_law_kept.proofs.Synced.{synced_many}
 use Rattle.curp_law_kept.proofs.Apart.{among_cases}
 use Rattle.curp_law_kept.proofs.NumberedLists.{filter_among, among_each}
 use Rattle.curp_law_kept.proofs.Entries.{ordered_later}
-use Rattle.curp_law_kept.proofs.Words.{Follows, adopted_later, event_at, given_later, message_at, log_later, one_state}
+use Rattle.curp_law_kept.proofs.Words.{Follows, adopted_stays, event_at, given_stays, message_at, log_later, one_state}
 use Rattle.std.proofs.Math.Seq.{take-length}
 use Rattle.curp_cmd.specs.declared.command.Command.TheVariants.{Get}
 use Rattle.curp_msg.specs.declared.body.Quick.{Quick}
 use Rattle.curp_range.specs.Spans.{is_owned}
 use Rattle.curp_model.specs.Ranges.{owns_all}
-use Rattle.curp_law_kept.proofs.Moved.{sent_cases}
+use Rattle.curp_law_kept.proofs.ManagerWorlds.{sent_cases}
 use Rattle.curp_law_kept.proofs.Clean.{clean_apart}
 
 -- ---- what is synced lies in the log
@@ -129,14 +129,14 @@ module _ {w v : World} (known : Known w) {n : ℕ} {from : NodeId} {heard : Opti
   -- ---- replies and values
 
   speaks : (epoch version : ℕ) → epoch ≡ y.epoch → version ≡ y.version → Speaks v (master_node n) epoch version
-  speaks epoch version e r = record { lists = lists_of_master (master_node n) y; adopted = adopted_later f was_adopted; its_master = refl; its_epoch = sym e; its_version = sym r }
+  speaks epoch version e r = record { lists = lists_of_master (master_node n) y; adopted = adopted_stays f was_adopted; its_master = refl; its_epoch = sym e; its_version = sym r }
 
   synced_says : (r : Reply) → y.phase ≡ Open → r.version ≡ y.version → SyncedSays y r → SyncedSaid v (master_node n) r
   synced_says r is_open version k =
       let here : StandsHere y.lo y.hi y.log k.stands.index r.id r.answer = stands_here y.lo y.hi y.log r.id r.answer k.stands in
       record {
         lists = lists_of_master (master_node n) y;
-        adopted = adopted_later f was_adopted;
+        adopted = adopted_stays f was_adopted;
         its_master = refl;
         its_version = sym version;
         l = record { log = y.log; round = y.round };
@@ -163,7 +163,7 @@ module _ {w v : World} (known : Known w) {n : ℕ} {from : NodeId} {heard : Opti
       said : (count : ℕ) → count ≤ k.index → count ≤ synced y → ((j : ℕ) (e : Entry) → count ≤ j → j < k.index → At y.log j e → Each (λ h. entry_touches e h ≡ false) (hashes k.request.command)) → EarlySaid v (master_node n) r
       said count below low clear = record {
         lists = lists_of_master (master_node n) y;
-        adopted = adopted_later f was_adopted;
+        adopted = adopted_stays f was_adopted;
         its_master = refl;
         its_version = sym version;
         m = y;
@@ -257,7 +257,7 @@ module _ {w v : World} (known : Known w) {n : ℕ} {from : NodeId} {heard : Opti
       let whole : take (length y.log) y.log ≡ y.log = take-length y.log in
       record {
         lists = lists_of_master (master_node n) y;
-        adopted = adopted_later f was_adopted;
+        adopted = adopted_stays f was_adopted;
         its_master = refl;
         its_epoch = sym k.its_epoch;
         its_version = sym k.its_version;
@@ -296,7 +296,7 @@ module _ {w v : World} (known : Known w) {n : ℕ} {from : NodeId} {heard : Opti
   -- a backup on which it stores is one of given lists
   stores_on : (to : NodeId) → IsAmong to (stored_on y) → (l : Lists) × IsGiven v l × (l.master ≡ master_node n) × (l.epoch ≡ y.epoch) × IsAmong to l.backups
   stores_on to among = elim (among_cases y.backups (fresh_backups y.phase y.backups) to among) [
-    | inl own ↦ (lists_of_master (master_node n) y, given_later f was_adopted.given, refl, refl, own)
+    | inl own ↦ (lists_of_master (master_node n) y, given_stays f was_adopted.given, refl, refl, own)
     | inr fresh ↦ go y.phase refl fresh
   ]
     where
@@ -305,7 +305,7 @@ module _ {w v : World} (known : Known w) {n : ℕ} {from : NodeId} {heard : Opti
       go (Switching t) is fresh =
           let next : Lists = record { part = y.part; epoch = y.epoch; version = t.version; master = master_node n; backups = t.backups; witnesses = t.witnesses } in (
             next,
-            ByReplacement (lists_of_master (master_node n) y) (record { version = t.version; backups = t.backups; witnesses = t.witnesses }) (given_later f was_adopted.given) (ok.switching t is).ordered,
+            ByReplacement (lists_of_master (master_node n) y) (record { version = t.version; backups = t.backups; witnesses = t.witnesses }) (given_stays f was_adopted.given) (ok.switching t is).ordered,
             refl,
             refl,
             filter_among (λ b. not (is_among b y.backups)) t.backups to fresh,
@@ -333,7 +333,7 @@ module _ {w v : World} (known : Known w) {n : ℕ} {from : NodeId} {heard : Opti
   pub gc_says : (place : ℕ) → length (messages w) ≤ place → (to : NodeId) (g : Gc) → GcSays y to g → GcHolds v place (master_node n) to g
   gc_says place late to g k = record {
     lists = lists_of_master (master_node n) y;
-    adopted = record { given = given_later f was_adopted.given; told = told };
+    adopted = record { given = given_stays f was_adopted.given; told = told };
     its_master = refl;
     its_epoch = sym k.its_epoch;
     its_witness = k.its_witness;
@@ -359,7 +359,7 @@ module _ {w v : World} (known : Known w) {n : ℕ} {from : NodeId} {heard : Opti
   pub entry_says : (Is : Entry → Type 0) → StoredSays y Is → StoredEntry v (master_node n) Is
   entry_says Is k = record {
     lists = lists_of_master (master_node n) y;
-    adopted = adopted_later f was_adopted;
+    adopted = adopted_stays f was_adopted;
     its_master = refl;
     l = record { log = y.log; round = y.round };
     its_log = log_now;
@@ -374,7 +374,7 @@ module _ {w v : World} (known : Known w) {n : ℕ} {from : NodeId} {heard : Opti
   pub give_ordered : (migration : ℕ) → GiveOrdered w y.part migration → GiveWasOrdered v (master_node n) migration
   give_ordered migration k = record {
     part = y.part;
-    its_part = record { lists = lists_of_master (master_node n) y; given = given_later f was_adopted.given; its_master = refl; its_part = refl };
+    its_part = record { lists = lists_of_master (master_node n) y; given = given_stays f was_adopted.given; its_master = refl; its_part = refl };
     parcel = k.parcel;
     ordered = ordered_later f k.ordered;
     its_number = k.its_number;

@@ -19,7 +19,7 @@ use Rattle.curp_facts.specs.Reach.{HasStored}
 use Rattle.curp_facts.specs.Names.{RecoverOrderOk}
 use Rattle.curp_law_kept.proofs.Entries.{log_ok_later, updates_later}
 use Rattle.curp_law_kept.proofs.KeepersStay.{fenced_later, frozen_later, sources_later}
-use Rattle.curp_law_kept.proofs.Words.{Follows, adopted_later, event_at, hi_later, lo_later, sent_later, stored_later}
+use Rattle.curp_law_kept.proofs.Words.{Follows, adopted_stays, event_at, hi_later, lo_later, sent_later, stored_later}
 
 -- the node has said neither Prepared nor Recovered for the first time
 pub record SaysNoMore (w v : World) (node : NodeId) : Type 0 where
@@ -51,7 +51,7 @@ module _ {w v : World} (s : Follows w v) where
 
   pub serving_ok_later : (node : NodeId) (m : MasterState) → SaysNoMore w v node → ServingOk w node m → ServingOk v node m
   serving_ok_later node m quiet ok = record {
-    adopted = adopted_later s ok.adopted;
+    adopted = adopted_stays s ok.adopted;
     lo = ok.lo ∙ sym (lo_later s m.part);
     hi = ok.hi ∙ sym (hi_later s m.part);
     log = log_ok_later s m.part m.log ok.log;

@@ -1,33 +1,21 @@
 -- Where one node has said more: what was said by others was said before.
-use Rattle.std.proofs.Common.{◌≡◌, ◌≢◌, ◌⊎◌, inl, inr, ℕ, ◌+◌, List, ◌++◌, length, refl, sym, subst}
+use Rattle.std.proofs.Common.{◌≡◌, ◌≢◌, ◌⊎◌, inl, inr, ℕ, ◌+◌, List, ◌++◌, length, sym, subst}
 use Rattle.curp_base.specs.Words.{At, Each}
-use Rattle.curp_base.proofs.Lists.{Each-at, at_append_cases, at_append_right}
+use Rattle.curp_base.proofs.Lists.{Each-at, at_append_cases}
 use Rattle.curp_cmd.specs.Node.{manager_node}
 use Rattle.curp_cmd.specs.declared.node.NodeId.{NodeId}
 use Rattle.curp_msg.specs.declared.message.Message.{Message}
 use Rattle.curp_model.specs.Manager.{Shape, opening_config}
 use Rattle.curp_model.specs.World.{World, messages}
-use Rattle.curp_facts.specs.Facts.{AtOpening, ByRecovery, ByReplacement, IsAmong, IsGiven, Lists, WasAdopted, WasSent}
+use Rattle.curp_facts.specs.Facts.{AtOpening, ByRecovery, ByReplacement, IsGiven, Lists, WasAdopted, WasSent}
 use Rattle.curp_facts.specs.Reach.{IsReady}
 use Rattle.curp_facts.specs.Said.{Says}
+use Rattle.curp_law_kept.proofs.ManagerWorlds.{sent_cases}
 use Rattle.curp_law_kept.proofs.MastersStay.{SaysNoMore}
 
 module _ (w v : World) (out : List Message) (e : messages v ≡ messages w ++ out) where
   pub at_back : (k : ℕ) (m : Message) → At (messages v) k m → At (messages w) k m ⊎ ((j : ℕ) × (k ≡ length (messages w) + j) × At out j m)
   at_back k m at = at_append_cases (messages w) out k m (subst (λ (ms : List Message). At ms k m) e at)
-
-  -- what was sent now
-  abbrev pub sent_now : {m : Message} → IsAmong m out → WasSent v m
-  sent_now {m} a = record {
-    place = length (messages w) + a.place;
-    stands = subst (λ (ms : List Message). At ms (length (messages w) + a.place) m) (sym e) (at_append_right (messages w) out a.place (length (messages w) + a.place) m refl a.stands);
-  }
-
-  pub sent_cases : (m : Message) → WasSent v m → WasSent w m ⊎ IsAmong m out
-  sent_cases m sent = elim (at_back sent.place m sent.stands) [
-    | inl h ↦ inl (record { place = sent.place; stands = h })
-    | inr h ↦ inr (record { place = h.0; stands = h.2 })
-  ]
 
   -- each message says what it has to, the new ones at their places
   pub messages_say : ((k : ℕ) (m : Message) → At (messages w) k m → Says v k m.from m.to m.body)
@@ -41,7 +29,7 @@ module _ (w v : World) (out : List Message) (e : messages v ≡ messages w ++ ou
   module _ (mover : NodeId) (all : Each (λ (m : Message). m.from ≡ mover) out) where
     -- what another node has sent it has sent before
     pub sent_back : (m : Message) → WasSent v m → m.from ≢ mover → WasSent w m
-    sent_back m sent other = elim (sent_cases m sent) [
+    sent_back m sent other = elim (sent_cases w v out e m sent) [
       | inl was ↦ was
       | inr now ↦ absurd (other (Each-at (λ (x : Message). x.from ≡ mover) out all now.place m now.stands))
     ]

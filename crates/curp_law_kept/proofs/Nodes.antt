@@ -15,7 +15,7 @@ use Rattle.curp_facts.specs.Kept.{FollowsLog}
 use Rattle.curp_facts.specs.Nodes.{BackupOk, CompletedBy, ValueWasSent, WitnessOk, WasRead, WasSeen}
 use Rattle.curp_facts.specs.Entries.{UpdateOk}
 use Rattle.curp_law_kept.proofs.Entries.{update_later}
-use Rattle.curp_law_kept.proofs.Words.{Follows, given_later, log_later, sent_later, adopted_later}
+use Rattle.curp_law_kept.proofs.Words.{Follows, given_stays, log_later, sent_later, adopted_stays}
 
 module _ {w v : World} (s : Follows w v) where
   -- ---- backups and witnesses
@@ -41,10 +41,10 @@ module _ {w v : World} (s : Follows w v) where
 
   pub completable_later : (part : ℕ) (id : RequestId) (a : Answer) → Completable w part id a → Completable v part id a
   completable_later part id a ok = elim ok [
-    | inl k ↦ inl (record { lists = k.lists; given = given_later s k.given; its_part = k.its_part; reply = k.reply; sent = sent_later s k.sent; its_id = k.its_id; its_answer = k.its_answer; is_synced = k.is_synced })
+    | inl k ↦ inl (record { lists = k.lists; given = given_stays s k.given; its_part = k.its_part; reply = k.reply; sent = sent_later s k.sent; its_id = k.its_id; its_answer = k.its_answer; is_synced = k.is_synced })
     | inr k ↦ inr (record {
       lists = k.lists;
-      given = given_later s k.given;
+      given = given_stays s k.given;
       its_part = k.its_part;
       reply = k.reply;
       sent = sent_later s k.sent;
@@ -66,7 +66,7 @@ module _ {w v : World} (s : Follows w v) where
   pub seen_later : (id : RequestId) (a : Answer) → WasSeen w id a → WasSeen v id a
   seen_later id a k = record {
     lists = k.lists;
-    adopted = adopted_later s k.adopted;
+    adopted = adopted_stays s k.adopted;
     quick = k.quick;
     sent = sent_later s k.sent;
     its_id = k.its_id;

@@ -1,10 +1,10 @@
 -- Lists that are numbered from 1, what is among lists, and lists whose items differ.
-use Rattle.std.proofs.Common.{◌≡◌, ◌≢◌, ◌⊎◌, inl, inr, ℕ, zero, suc, ◌+◌, ◌-◌, ◌≤◌, Bool, List, [], ◌∷◌, ◌++◌, length, set, refl, ap, sym, ◌∙◌, subst, arith, Option, Some, None}
+use Rattle.std.proofs.Common.{◌≡◌, ◌≢◌, ◌⊎◌, inl, inr, ℕ, zero, suc, ◌-◌, ◌≤◌, Bool, List, [], ◌∷◌, set, ap, sym, ◌∙◌, subst, arith, Option, Some, None}
 use Rattle.std.specs.List.{filter}
 use Rattle.std.proofs.lemmas.Bool.{cases_Bool}
 use Rattle.curp_base.specs.Cases.{first_there}
 use Rattle.curp_base.specs.Words.{At, Each, first_of, last_of, numbered}
-use Rattle.curp_base.proofs.Lists.{at_append_right, at_set_cases, Each-at, Each-from_at}
+use Rattle.curp_base.proofs.Lists.{at_set_cases, Each-at, Each-from_at}
 use Rattle.curp_facts.specs.Facts.{IsAmong}
 use Rattle.curp_facts.specs.Names.{AllDiffer}
 use Rattle.curp_base.proofs.Numbered.{place, at_place}
@@ -26,11 +26,9 @@ numbered_set_cases {A} xs n y low m x h =
 pub among_each : {A : Type 0} (P : A → Type 0) (xs : List A) → Each P xs → (x : A) → IsAmong x xs → P x
 among_each P xs all x a = Each-at P xs all a.place x a.stands
 
+-- what holds of all that is among a list
 pub each_among : {A : Type 0} (P : A → Type 0) (xs : List A) → ((x : A) → IsAmong x xs → P x) → Each P xs
 each_among P xs f = Each-from_at P xs (λ k x at. f x (record { place = k; stands = at }))
-
-abbrev pub among_right : {A : Type 0} (xs ys : List A) (x : A) → IsAmong x ys → IsAmong x (xs ++ ys)
-among_right xs ys x a = record { place = length xs + a.place; stands = at_append_right xs ys a.place _ x refl a.stands }
 
 -- what is among a list of which one item was set is the new one, or was there
 pub among_set : {A : Type 0} (xs : List A) (i : ℕ) (y x : A) → IsAmong x (set xs i y) → (x ≡ y) ⊎ IsAmong x xs

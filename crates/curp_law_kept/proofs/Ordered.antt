@@ -21,7 +21,8 @@ use Rattle.curp_model.specs.Log.{LogState, meaning}
 use Rattle.curp_model.specs.Table.{check, is_gone}
 use Rattle.curp_model.specs.World.{World}
 use Rattle.curp_law_kept.specs.Moves.{CollectableIn, IsSaidBy, ServingMove, ServingSays}
-use Rattle.curp_law_kept.proofs.MasterLists.{each_among, each_filtered}
+use Rattle.curp_law_kept.proofs.NumberedLists.{each_among}
+use Rattle.curp_law_kept.proofs.MasterLists.{each_filtered}
 use Rattle.curp_law_kept.proofs.Parts.{Parts, parts_left, parts_of, parts_round}
 use Rattle.curp_law_kept.proofs.Serving.{appends_say, begins, itself, keeps_log, pushes, rests, unless_ends}
 use Rattle.curp_law_kept.proofs.Serving.LogMove.{Expires, SameLog}

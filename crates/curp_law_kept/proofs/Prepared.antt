@@ -22,7 +22,7 @@ use Rattle.curp_facts.specs.Said.{RecoveredSaid}
 use Rattle.curp_law_kept.proofs.Logs.{take_grows}
 use Rattle.curp_facts.specs.Names.{RecoverOrderOk}
 use Rattle.curp_law_kept.proofs.KeepersStay.{prefixes_later, sources_later}
-use Rattle.curp_law_kept.proofs.Words.{Follows, given_later, log_later, master_later, message_at, one_state, reach_later, sent_later, there}
+use Rattle.curp_law_kept.proofs.Words.{Follows, given_stays, log_later, master_later, message_at, one_state, reach_later, sent_later, there}
 
 -- a list behind a prefix, from a place in the prefix on
 drop_prefix : {A : Type 0} (n : ℕ) (xs ys : List A) → IsPrefix xs ys → n ≤ length xs → drop n ys ≡ drop n xs ++ drop (length xs) ys
@@ -84,7 +84,7 @@ module _ {w v : World} (s : Follows w v) where
       let within = at_within (messages w) ok.place _ ok.first.prepared in
       record {
         lists = ok.lists;
-        given = given_later s ok.given;
+        given = given_stays s ok.given;
         its_master = ok.its_master;
         its_version = ok.its_version;
         l = o.0;

@@ -35,7 +35,7 @@ use Rattle.curp_facts.specs.Reach.{HasStored}
 use Rattle.curp_law_kept.specs.Moves.{HearsLog, HearsStored, IsSaidBy, RecoveryHears, RecoveryMove, RecoverySays}
 use Rattle.curp_law_kept.specs.Stages.{BeginningOk, FreshSays}
 use Rattle.curp_law_kept.proofs.Among.{each_tested, found_among}
-use Rattle.curp_law_kept.proofs.MasterLists.{each_among}
+use Rattle.curp_law_kept.proofs.NumberedLists.{each_among}
 use Rattle.curp_law_kept.proofs.Replays.{replay_ok}
 
 -- a state of a recovery

@@ -101,7 +101,7 @@ module _ {w : World} (n : Names w) (p : ℕ) (c : PartConfig) (here : numbered w
   fresh = record { lists = record { ok = its_ok; apart = its_apart; version = omega arith }; absent = absent }
 
   sent : WasSent after (says manager_node node (body.Recover o))
-  sent = sent_now w after (recover_messages node o) (moved_messages w adopted events (recovers w.manager p o)) _ (record { place = length (install_on o.epoch o.backups ++ start_on o.part o.epoch o.witnesses) + 0; stands = at_append_right (install_on o.epoch o.backups ++ start_on o.part o.epoch o.witnesses) _ 0 _ _ refl refl })
+  sent = sent_now w after (recover_messages node o) (moved_messages w adopted events (recovers w.manager p o)) (record { place = length (install_on o.epoch o.backups ++ start_on o.part o.epoch o.witnesses) + 0; stands = at_append_right (install_on o.epoch o.backups ++ start_on o.part o.epoch o.witnesses) _ 0 _ _ refl refl })
 
   given : IsGiven after its
   given = ByRecovery node o sent

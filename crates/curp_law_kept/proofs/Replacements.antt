@@ -134,7 +134,7 @@ module _ {w : World} (n : Names w) (p : ℕ) (c : PartConfig) (here : numbered w
   placed keeper.Witness its = stands_in c.witnesses (witness_node w.manager.next.witness) its
 
   sent : (k : Keeper) → WasSent (after k) (says manager_node c.master (body.Prepare (prepare k)))
-  sent k = sent_now w (after k) (out k) (moved_messages w adopted events (replaces w.manager p k place c)) _
+  sent k = sent_now w (after k) (out k) (moved_messages w adopted events (replaces w.manager p k place c))
       (record { place = length (fresh_keeper c k (fresh_node w.manager k)) + 0; stands = at_append_right (fresh_keeper c k (fresh_node w.manager k)) _ 0 _ _ refl refl })
 
   given : (k : Keeper) → IsGiven (after k) (lists_of_prepare (lists_of_part c) (prepare k))

@@ -18,7 +18,7 @@ use Rattle.curp_facts.specs.Said.{GcHolds, ReplyHolds, ReplySaid, StoredEntry, W
 use Rattle.curp_law_kept.specs.Standing.{StandsHere}
 use Rattle.curp_law_kept.proofs.Logs.{take_grows}
 use Rattle.curp_law_kept.proofs.Standings.{stands_at, stands_here, stands_longer}
-use Rattle.curp_law_kept.proofs.Words.{Follows, adopted_later, event_at, given_later, hi_later, lo_later, log_later, many_later, message_at, reach_later, serving_later}
+use Rattle.curp_law_kept.proofs.Words.{Follows, adopted_stays, event_at, given_stays, hi_later, lo_later, log_later, many_later, message_at, reach_later, serving_later}
 use Rattle.curp_msg.specs.declared.body.Quick.{Quick}
 use Rattle.curp_range.specs.Spans.{is_owned}
 use Rattle.curp_cmd.specs.Hash.{hash_of}
@@ -31,7 +31,7 @@ module _ {w v : World} (s : Follows w v) where
   in_range part P p = subst (λ (lo : ℕ). P lo (hi_of v part)) (sym (lo_later s part)) (subst (λ (hi : ℕ). P (lo_of w part) hi) (sym (hi_later s part)) p)
 
   abbrev pub speaks_later : {from : NodeId} {epoch version : ℕ} → Speaks w from epoch version → Speaks v from epoch version
-  speaks_later ok = record { lists = ok.lists; adopted = adopted_later s ok.adopted; its_master = ok.its_master; its_epoch = ok.its_epoch; its_version = ok.its_version }
+  speaks_later ok = record { lists = ok.lists; adopted = adopted_stays s ok.adopted; its_master = ok.its_master; its_epoch = ok.its_epoch; its_version = ok.its_version }
 
   abbrev pub synced_later : (from : NodeId) (r : Reply) → SyncedSaid w from r → SyncedSaid v from r
   synced_later from r ok =
@@ -41,7 +41,7 @@ module _ {w v : World} (s : Follows w v) where
       = stands_longer (lo_of w part) (hi_of w part) ok.l.log o.0.log ok.stands.index r.id r.answer o.2 (stands_here (lo_of w part) (hi_of w part) ok.l.log r.id r.answer ok.stands) in
       record {
         lists = ok.lists;
-        adopted = adopted_later s ok.adopted;
+        adopted = adopted_stays s ok.adopted;
         its_master = ok.its_master;
         its_version = ok.its_version;
         l = o.0;
@@ -60,7 +60,7 @@ module _ {w v : World} (s : Follows w v) where
       let its : Logged = record { log = o.0.log; round = o.0.round } in
       record {
         lists = ok.lists;
-        adopted = adopted_later s ok.adopted;
+        adopted = adopted_stays s ok.adopted;
         its_master = ok.its_master;
         its_version = ok.its_version;
         m = o.0;
@@ -115,7 +115,7 @@ module _ {w v : World} (s : Follows w v) where
 
   abbrev pub before_later : (place : ℕ) (l : Lists) → AdoptedBefore w place l → AdoptedBefore v place l
   before_later place l ok = record {
-    given = given_later s ok.given;
+    given = given_stays s ok.given;
     told = elim ok.told [ inl one ↦ inl one | inr sent ↦ inr (sent.0, sent.1, message_at s sent.0 _ sent.2) ];
   }
 
@@ -134,7 +134,7 @@ module _ {w v : World} (s : Follows w v) where
       let o = log_later s from ok.l ok.its_log in
       record {
         lists = ok.lists;
-        adopted = adopted_later s ok.adopted;
+        adopted = adopted_stays s ok.adopted;
         its_master = ok.its_master;
         l = o.0;
         its_log = o.1;
@@ -165,7 +165,7 @@ module _ {w v : World} (s : Follows w v) where
       let at_long : take ok.long o.0.log ≡ take ok.long ok.m.log = take_grows ok.long prefix ok.low in
       record {
         lists = ok.lists;
-        adopted = adopted_later s ok.adopted;
+        adopted = adopted_stays s ok.adopted;
         its_master = ok.its_master;
         its_epoch = ok.its_epoch;
         its_version = ok.its_version;

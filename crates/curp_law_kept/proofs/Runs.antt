@@ -124,7 +124,7 @@ module _ (w : World) (both : Both w) (events : List Event) where
           new_fits r adopted names m a from =
               let v : World = manager_moved w adopted events r in
               let same : m ≡ says manager_node m.to m.body = ap (λ (x : NodeId). says x m.to m.body) from in
-              let sent : WasSent v (says manager_node m.to m.body) = subst (WasSent v) same (sent_now w v r.messages (moved_messages w adopted events r) m a) in
+              let sent : WasSent v (says manager_node m.to m.body) = subst (WasSent v) same (sent_now w v r.messages (moved_messages w adopted events r) a) in
               subst (MessageFits v) (sym same) (manager_fits v names m.to m.body sent (names.manager_says m.to m.body sent))
 
   -- ---- the others

@@ -20,7 +20,7 @@ use Rattle.curp_law_kept.proofs.Entries.{ordered_later, refusal_later, request_l
 use Rattle.curp_law_kept.proofs.KeepersStay.{accepted_later, append_holds_later, append_later, appended_later, fence_reply_later, frozen_later, probed_later}
 use Rattle.curp_law_kept.proofs.Prepared.{prepared_later, recovered_said_later}
 use Rattle.curp_law_kept.proofs.Replies.{entry_stored_later, gc_later, reply_later, worth_later, quick_later}
-use Rattle.curp_law_kept.proofs.Words.{Follows, adopted_later, event_at, given_later, ready_later, sent_later}
+use Rattle.curp_law_kept.proofs.Words.{Follows, adopted_stays, event_at, given_stays, ready_later, sent_later}
 
 module _ {w v : World} (s : Follows w v) where
   abbrev migrated_later : (number : ℕ) → WasMigrated w number → WasMigrated v number
@@ -44,7 +44,7 @@ module _ {w v : World} (s : Follows w v) where
   has_ranges_later config ok = record { count = ok.count; ranges = ok.ranges; after = ranges_later ok.count ok.ranges ok.after; has = ok.has }
 
   pub entry_was_later : (c : PartConfig) → EntryWas w c → EntryWas v c
-  entry_was_later c ok = adopted_later s ok
+  entry_was_later c ok = adopted_stays s ok
 
   asked_later : (from : NodeId) (r : Request) → AskSaid w from r → AskSaid v from r
   asked_later from r ok = record { request = request_later s ok.request; sender = ok.sender }
@@ -94,7 +94,7 @@ module _ {w v : World} (s : Follows w v) where
     entry_stored_later s from (IsGiveFrom migration) ok.0,
     record {
       part = ok.1.part;
-      its_part = record { lists = ok.1.its_part.lists; given = given_later s ok.1.its_part.given; its_master = ok.1.its_part.its_master; its_part = ok.1.its_part.its_part };
+      its_part = record { lists = ok.1.its_part.lists; given = given_stays s ok.1.its_part.given; its_master = ok.1.its_part.its_master; its_part = ok.1.its_part.its_part };
       parcel = ok.1.parcel;
       ordered = ordered_later s ok.1.ordered;
       its_number = ok.1.its_number;

@@ -17,7 +17,7 @@ use Rattle.curp_model.specs.Master.{Acknowledged, MasterState, Open, Switch, Swi
 use Rattle.curp_model.specs.World.{World}
 use Rattle.curp_law_kept.specs.Moves.{IsSaidBy, ServingMove, ServingSays, SaysAll, SwitchReaches}
 use Rattle.curp_law_kept.specs.Moves.ListsMove.{Stays}
-use Rattle.curp_law_kept.proofs.MasterLists.{each_among}
+use Rattle.curp_law_kept.proofs.NumberedLists.{each_among}
 use Rattle.curp_law_kept.proofs.Parts.{Parts, parts_of, parts_push, parts_round}
 use Rattle.curp_law_kept.proofs.Pushed.{IsAbove}
 use Rattle.curp_facts.specs.Entries.{EntryOk}

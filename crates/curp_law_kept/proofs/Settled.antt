@@ -14,7 +14,8 @@ use Rattle.curp_facts.specs.Entries.{EntryOk}
 use Rattle.curp_facts.specs.Facts.{WasOrdered}
 use Rattle.curp_facts.specs.Nodes.{CapturedOk, IsOpAt}
 use Rattle.curp_law_kept.specs.Moves.{IsSaidBy, ServingSays}
-use Rattle.curp_law_kept.proofs.MasterLists.{each_among, each_filtered}
+use Rattle.curp_law_kept.proofs.NumberedLists.{each_among}
+use Rattle.curp_law_kept.proofs.MasterLists.{each_filtered}
 use Rattle.curp_law_kept.proofs.Parts.{Grown, Parts, acknowledgements_grow, captures_grow, free_grows, queued_grow}
 use Rattle.curp_law_kept.proofs.Serving.{AllSaid}
 

@@ -55,15 +55,15 @@ module _ {w v : World} (s : Follows w v) where
   pub hi_later : (part : ℕ) → hi_of v part ≡ hi_of w part
   hi_later part = ap (λ (x : Shape). (opening_range x.parts part).hi) s.later.shape
 
-  pub given_later : {l : Lists} → IsGiven w l → IsGiven v l
-  given_later {l} given = names.given_later s.later l given
+  pub given_stays : {l : Lists} → IsGiven w l → IsGiven v l
+  given_stays {l} given = names.given_later s.later l given
 
-  abbrev pub adopted_later : {l : Lists} → WasAdopted w l → WasAdopted v l
-  adopted_later {l} was = names.adopted_later s.later l was
+  abbrev pub adopted_stays : {l : Lists} → WasAdopted w l → WasAdopted v l
+  adopted_stays {l} was = names.adopted_later s.later l was
 
   abbrev pub ready_later : {l : Lists} → IsReady w l → IsReady v l
   ready_later {l} ready = record {
-    given = given_later ready.given;
+    given = given_stays ready.given;
     told = elim ready.told [
       | inl one ↦ inl one
       | inr told ↦ inr (elim told [

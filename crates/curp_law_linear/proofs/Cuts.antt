@@ -34,7 +34,7 @@ use Rattle.curp_law_runs.proofs.Adoptions.{adoptions_ok}
 use Rattle.curp_law_runs.proofs.Words.{one_backup}
 use Rattle.curp_msg.specs.declared.body.Body.TheVariants as body
 use Rattle.curp_msg.specs.declared.body.Recover.{Recover}
-use Rattle.curp_law_kept.proofs.Words.{Follows, adopted_later, master_later, backup_later, sent_later}
+use Rattle.curp_law_kept.proofs.Words.{Follows, adopted_stays, master_later, backup_later, sent_later}
 
 -- ---- where no recovery is adopted
 
@@ -57,7 +57,7 @@ module _ {w v : World} (known : Known w) (chain : Predecessors w) (now : Known v
   parts_same = ap (λ (x : Shape). x.parts) s.later.shape
 
   pub reign_later : (part : ℕ) (r : Reign) → ReignOk w part r → ReignOk v part r
-  reign_later part r o = record { lists = o.lists; adopted = adopted_later s o.adopted; its_part = o.its_part; its_epoch = o.its_epoch; its_master = o.its_master }
+  reign_later part r o = record { lists = o.lists; adopted = adopted_stays s o.adopted; its_part = o.its_part; its_epoch = o.its_epoch; its_master = o.its_master }
 
   -- a master's log only grows
   pub log_grows : (node : NodeId) → node.kind ≡ kind.Master → length (entries_at (numbered w.masters node.number)) ≤ length (entries_at (numbered v.masters node.number))

@@ -43,7 +43,7 @@ module _ {w : World} (o : Option Attempted) (events : List Event) (none : events
   pub moved_told : Names (manager_moved w o events r) → (line_of (manager_moved w o events r)).told ≡ (line_of w).told
   moved_told names =
       same_told w (manager_moved w o events r) r.messages (moved_messages w o events r)
-      (tells_none w (manager_moved w o events r) names r.messages does.messages (sent_now w (manager_moved w o events r) r.messages (moved_messages w o events r)))
+      (tells_none w (manager_moved w o events r) names r.messages does.messages (λ m. sent_now w (manager_moved w o events r) r.messages (moved_messages w o events r) {m = m}))
 
   -- the machine's state by what changes in it
   pub moved_line : Names (manager_moved w o events r) → (parts : List Part) → (line_of (manager_moved w o events r)).parts ≡ parts → (moving : Option Migration) → moving_of r.state.moving ≡ moving

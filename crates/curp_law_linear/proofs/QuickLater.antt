@@ -11,7 +11,7 @@ use Rattle.curp_law_linear.proofs.QuickLaws.{quick_stays, low_stays}
 use Rattle.curp_law_linear.proofs.QuickRuns.{early_on}
 use Rattle.curp_model.specs.World.{World}
 use Rattle.curp_law_linear.specs.Ordered.{Ordered, IsLow, QuickOk, capture_of}
-use Rattle.curp_law_kept.proofs.Words.{Follows, adopted_later, witness_later}
+use Rattle.curp_law_kept.proofs.Words.{Follows, adopted_stays, witness_later}
 use Rattle.curp_law_linear.specs.Refined.{Refines}
 use Rattle.curp_model.specs.Marks.{Mark}
 use Rattle.curp_law_linear.specs.OfWorld.{line_of}
@@ -52,7 +52,7 @@ module _ {w v : World} (ordered : Ordered w) (s : Follows w v) (r : Refines w v)
   pub quick_later : NoneLives w v → (node : NodeId) (q : QuickValue) → QuickOk w node q → QuickOk v node q
   quick_later lives node q ok = record {
     lists = ok.lists;
-    adopted = adopted_later s ok.adopted;
+    adopted = adopted_stays s ok.adopted;
     its_master = ok.its_master;
     its_epoch = ok.its_epoch;
     its_version = ok.its_version;

@@ -18,11 +18,11 @@ use Rattle.curp_cmd.specs.Node.{master_node, client_node}
 use Rattle.curp_msg.specs.declared.body.Quick.{Quick as QuickValue}
 use Rattle.curp_facts.specs.Kept.{lists_of_master}
 use Rattle.curp_law_linear.specs.Refined.{Refines, RefinesQuiet}
-use Rattle.curp_law_kept.proofs.Words.{Follows, one_state, adopted_later}
+use Rattle.curp_law_kept.proofs.Words.{Follows, one_state, adopted_stays}
 use Rattle.curp_law_kept.proofs.MastersReady.{step_follows}
 use Rattle.curp_facts.specs.Nodes.{ServingOk}
 use Rattle.curp_law_linear.proofs.ReadsPassed.{capture_later}
-use Rattle.curp_law_kept.proofs.Moved.{sent_cases}
+use Rattle.curp_law_kept.proofs.ManagerWorlds.{sent_cases}
 use Rattle.curp_facts.specs.Facts.{WasSent}
 use Rattle.curp_law_linear.proofs.ReadsLater.{ReadWas, ReadsOk, made_later, completed_later, older_later, quick_reached}
 use Rattle.curp_base.specs.Words.{numbered, At, Each}
@@ -182,7 +182,7 @@ module _ {w v : World} (known : Known w) (chain : Predecessors w) (ordered : Ord
   quick_now : QuickOk v node q
   quick_now = record {
     lists = lists_of_master node x;
-    adopted = adopted_later follows before.adopted;
+    adopted = adopted_stays follows before.adopted;
     its_master = refl;
     its_epoch = refl;
     its_version = refl;

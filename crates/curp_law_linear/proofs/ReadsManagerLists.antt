@@ -15,12 +15,11 @@ use Rattle.curp_model.specs.Recovery.{Fresh, Serving}
 use Rattle.curp_model.specs.World.{World, grown, messages}
 use Rattle.curp_facts.specs.Facts.{ByRecovery, IsAdoptedNow, IsAmong, IsGiven, Lists, WasAdopted, lists_of_order, lists_of_part}
 use Rattle.curp_facts.specs.Known.{Known}
-use Rattle.curp_law_kept.proofs.Moved.{sent_cases}
 use Rattle.curp_law_linear.proofs.ReadsManager.{ManagerSaid}
 use Rattle.curp_law_linear.proofs.ReadsPassed.{NewerLists}
 use Rattle.curp_facts.specs.Names.{AdoptedOk}
 use Rattle.curp_law_kept.proofs.Later.{Later, given_later}
-use Rattle.curp_law_kept.proofs.ManagerWorlds.{manager_moved, moved_messages}
+use Rattle.curp_law_kept.proofs.ManagerWorlds.{manager_moved, moved_messages, sent_cases}
 use Rattle.curp_law_runs.specs.Adopting.{Comes, FromRecovery, FromReplacement}
 use Rattle.curp_law_runs.proofs.Adopted.{adopted_back, adopted_word}
 use Rattle.curp_law_runs.proofs.Uttered.{AdoptsOne, IsOld, NoNew, OneNew}

@@ -16,7 +16,7 @@ use Rattle.curp_facts.specs.Facts.{IsAmong}
 use Rattle.curp_facts.specs.Known.{Known}
 use Rattle.curp_law_kept.proofs.MastersMoves.{MasterStep}
 use Rattle.curp_law_kept.proofs.MastersReady.{step_follows}
-use Rattle.curp_law_kept.proofs.Moved.{sent_cases}
+use Rattle.curp_law_kept.proofs.ManagerWorlds.{sent_cases}
 use Rattle.curp_law_linear.specs.Ordered.{CutsFollow, Ordered, CutsTimed}
 use Rattle.curp_law_linear.specs.Refined.{Refines}
 use Rattle.curp_law_linear.proofs.ReadsCaptures.{ReadsMove}

@@ -29,7 +29,8 @@ use Rattle.curp_law_kept.proofs.Known.{fits, said}
 use Rattle.curp_law_kept.proofs.MastersHeard.{one_log}
 use Rattle.curp_law_kept.proofs.MastersMoves.{MasterStep}
 use Rattle.curp_law_kept.proofs.MastersReady.{step_follows}
-use Rattle.curp_law_kept.proofs.Moved.{sent_back, sent_cases}
+use Rattle.curp_law_kept.proofs.ManagerWorlds.{sent_cases}
+use Rattle.curp_law_kept.proofs.Moved.{sent_back}
 use Rattle.curp_law_linear.specs.Ordered.{CaptureOk, CutsFollow, LooksNumbered, LooksReached, Ordered, WorthOk, CutsTimed, QuickOk}
 use Rattle.curp_law_linear.specs.Refined.{Refines}
 use Rattle.curp_law_linear.proofs.ReadsAdopted.{later_entry, new_look, own_entry}
@@ -48,7 +49,7 @@ use Rattle.curp_law_linear.proofs.QuickLater.{quick_later}
 use Rattle.curp_msg.specs.declared.body.Quick.{Quick as QuickValue}
 use Rattle.curp_law_linear.proofs.MastersCuts.{master_lives, master_entries, master_newer, master_late}
 use Rattle.std.proofs.lemmas.Bool.{eqb-true}
-use Rattle.curp_law_kept.proofs.Words.{Follows, adopted_later, one_state, serving_later}
+use Rattle.curp_law_kept.proofs.Words.{Follows, adopted_stays, one_state, serving_later}
 use Rattle.curp_cmd.proofs.Nodes.{either_node}
 
 module _ {w v : World} (known : Known w) (now : Known v) (chain : Predecessors w) (later : Predecessors v) (ordered : Ordered w) {n : ℕ} {from : NodeId} {heard : Option Body} {x y : MasterState} {out : List Message}
@@ -309,7 +310,7 @@ module _ {w v : World} (known : Known w) (now : Known v) (chain : Predecessors w
         go true is = inl (new_look known node x s.was ordered is y c read captured v.marks goes.part goes.epoch (one_marked c more read is))
         go false is =
             let e = later_entry known node x s.was is in
-            inr (passed_new now later node y s.is c (lists_of_part e.entry) (adopted_later follows (known.names.top e.entry e.now).was) (e.its_part ∙ sym goes.part) (omega (arith, e.above, goes.epoch)) (never_late c read))
+            inr (passed_new now later node y s.is c (lists_of_part e.entry) (adopted_stays follows (known.names.top e.entry e.now).was) (e.its_part ∙ sym goes.part) (omega (arith, e.above, goes.epoch)) (never_late c read))
 
     own_captures : Each (CaptureOk v node y) y.captures
     own_captures = go reads.captures

@@ -21,7 +21,7 @@ use Rattle.curp_law_linear.specs.Refined.{NoAdoption, Refines}
 use Rattle.curp_law_linear.proofs.ReadsStored.{stored_now, stored_stays}
 use Rattle.curp_facts.specs.Predecessors.{Predecessors}
 use Rattle.curp_facts.specs.Migrated.{AllStored}
-use Rattle.curp_law_kept.proofs.Words.{Follows, adopted_later}
+use Rattle.curp_law_kept.proofs.Words.{Follows, adopted_stays}
 
 -- no move drops looks of that length in that partition
 abbrev pub NoneDrops : List LineMove → ℕ → ℕ → Type 0
@@ -58,7 +58,7 @@ module _ {w v : World} (ordered : Ordered w) (r : Refines w v) where
   pub worth_later : Known w → Predecessors w → Follows w v → KeepsStored w r.moves → (node : NodeId) (x : Worth) → WorthOk w node x → WorthOk v node x
   worth_later known chain s keep node x ok = record {
     lists = ok.lists;
-    adopted = adopted_later s ok.adopted;
+    adopted = adopted_stays s ok.adopted;
     its_master = ok.its_master;
     its_epoch = ok.its_epoch;
     long = ok.long;

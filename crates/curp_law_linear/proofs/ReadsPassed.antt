@@ -24,7 +24,7 @@ use Rattle.curp_facts.specs.Names.{RecoverOrderOk}
 use Rattle.curp_model.specs.Witness.{WitnessState}
 use Rattle.curp_msg.specs.declared.body.Probed.{Probed}
 use Rattle.curp_model.specs.declared.Mode.TheVariants as mode
-use Rattle.curp_law_kept.proofs.Words.{Follows, adopted_later, backup_later, sent_later}
+use Rattle.curp_law_kept.proofs.Words.{Follows, adopted_stays, backup_later, sent_later}
 
 -- lists that are adopted now are of no earlier epoch than those of their partition that were
 abbrev pub NewerLists : World → World → Type 0
@@ -77,7 +77,7 @@ module _ {w v : World} (known : Known w) (s : Follows w v) where
         let o = backup_later s p.order.backup p.b p.is in
         record {
           later = p.later;
-          adopted = adopted_later s p.adopted;
+          adopted = adopted_stays s p.adopted;
           its_part = p.its_part ∙ sym part;
           above = omega (arith, p.above, epoch);
           first = λ other was its_part above. elim (newer other was) [

@@ -15,7 +15,7 @@ use Rattle.curp_facts.specs.Predecessors.{Predecessors}
 use Rattle.curp_law_runs.proofs.Along.{reach_along}
 use Rattle.curp_law_runs.proofs.Logs.{reached}
 use Rattle.curp_facts.specs.Migrated.{AllStored}
-use Rattle.curp_law_kept.proofs.Words.{Follows, adopted_later, log_later, reach_later}
+use Rattle.curp_law_kept.proofs.Words.{Follows, adopted_stays, log_later, reach_later}
 
 -- ---- one step later
 
@@ -34,7 +34,7 @@ module _ {w v : World} (s : Follows w v) where
   abbrev pub from_stays : (node : NodeId) (part long : ℕ) → StoredFrom w node part long → StoredFrom v node part long
   from_stays node part long h = record {
     lists = h.lists;
-    adopted = adopted_later s h.adopted;
+    adopted = adopted_stays s h.adopted;
     its_master = h.its_master;
     its_part = h.its_part;
     stored = stored_stays node h.lists.version long h.stored;

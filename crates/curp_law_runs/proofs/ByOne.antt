@@ -122,7 +122,7 @@ module _ {w : World} (by_one : ByOne w) where
 
   manager_says : {v : World} → Known v → (out : List Message) → messages v ≡ messages w ++ out → Each (Uttered w) out → Each OfOne out
   manager_says {v} now out sent all = Each-from_at OfOne out (λ k m at.
-      let here : WasSent v m = sent_now w v out sent m (record { place = k; stands = at }) in
+      let here : WasSent v m = sent_now w v out sent {m = m} (record { place = k; stands = at }) in
       of_manager m.body (sym (fits now m here).sender.0 ∙ ap (λ (x : NodeId). x.kind) (Each-at (Uttered w) out all k m at).from))
 
   -- ---- a step

@@ -26,11 +26,11 @@ use Rattle.curp_facts.specs.Known.{Known}
 use Rattle.curp_facts.specs.Routes.{InWork, Routes, order_of}
 use Rattle.curp_msg.specs.Script.{IsStep}
 use Rattle.curp_law_kept.specs.Deeds.{IsFor}
-use Rattle.curp_law_kept.proofs.Cases as cases
+use Rattle.curp_law_kept.proofs.Cases.{StepCase, step_case}
 use Rattle.curp_law_kept.proofs.Known.{from_manager}
-use Rattle.curp_law_kept.proofs.Moved.{sent_back, sent_cases}
+use Rattle.curp_law_kept.proofs.Moved.{sent_back}
 use Rattle.curp_law_kept.proofs.NumberedLists.{among_each}
-use Rattle.curp_law_kept.proofs.ManagerWorlds.{moved_messages}
+use Rattle.curp_law_kept.proofs.ManagerWorlds.{moved_messages, sent_cases}
 use Rattle.curp_law_runs.proofs.Moves.{step_moves}
 use Rattle.curp_law_runs.proofs.Orders.{manager_orders}
 use Rattle.curp_law_runs.proofs.Steps.{nothing_sent}
@@ -220,18 +220,18 @@ module _ {w v : World} (s : Follows w v) (configs : Configs w) where
         let now = has_ranges_later s c.config (configs.known n c here) in
         heard_keeps (λ (d : ClientState). HasRanges v d.config) c now (λ p. now) (λ id. now) n m.from m.body (λ config is. comes n m config for is)
 
-    client_known : cases.StepCase w v → (n : ℕ) (c : ClientState) → numbered v.clients n ≡ Some c → HasRanges v c.config
-    client_known (cases.Stays is) = same_known (ap (λ (x : World). x.clients) is)
-    client_known (cases.Rests rests) = same_known (ap (λ (x : World). x.clients) rests.is)
-    client_known (cases.ByClient n given c here for made key is) = λ m d now. elim (numbered_set_cases w.clients n c (client_input n c given).state here m d
+    client_known : StepCase w v → (n : ℕ) (c : ClientState) → numbered v.clients n ≡ Some c → HasRanges v c.config
+    client_known (StepCase.Stays is) = same_known (ap (λ (x : World). x.clients) is)
+    client_known (StepCase.Rests rests) = same_known (ap (λ (x : World). x.clients) rests.is)
+    client_known (StepCase.ByClient n given c here for made key is) = λ m d now. elim (numbered_set_cases w.clients n c (client_input n c given).state here m d
         (subst (λ (x : World). numbered x.clients m ≡ Some d) is now)) [
           | inl other ↦ has_ranges_later s d.config (configs.known m d other.1)
           | inr this ↦ subst (λ (x : ClientState). HasRanges v x.config) this.1 (moved_client n c here given for)
         ]
-    client_known (cases.ByBackup n given b here for events none is) = same_known (ap (λ (x : World). x.clients) is)
-    client_known (cases.ByWitness n given x here for events none is) = same_known (ap (λ (x : World). x.clients) is)
-    client_known (cases.ByMaster n given m here for events none is) = same_known (ap (λ (x : World). x.clients) is)
-    client_known (cases.ByManager given for events none is) = same_known (ap (λ (x : World). x.clients) is)
+    client_known (StepCase.ByBackup n given b here for events none is) = same_known (ap (λ (x : World). x.clients) is)
+    client_known (StepCase.ByWitness n given x here for events none is) = same_known (ap (λ (x : World). x.clients) is)
+    client_known (StepCase.ByMaster n given m here for events none is) = same_known (ap (λ (x : World). x.clients) is)
+    client_known (StepCase.ByManager given for events none is) = same_known (ap (λ (x : World). x.clients) is)
 
 -- ---- each step
 
@@ -252,7 +252,7 @@ moved_configs {w} known routes configs _ (ByOther v b) s =
 pub step_configs : {w : World} → Known w → Routes w → Configs w → (x : Step) → IsStep x → Follows w (step w x).world → Configs (step w x).world
 step_configs {w} known routes configs x its s =
     let m = moved_configs known routes configs (step w x).world (step_moves w (record { names = known.names; nodes = known.nodes }) x) s in
-    record { present = m.present; told = m.told; known = client_known s configs known (cases.step_case w known x its) }
+    record { present = m.present; told = m.told; known = client_known s configs known (step_case w known x its) }
 
 -- ---- at the opening
 

@@ -14,11 +14,12 @@ use Rattle.curp_msg.specs.declared.message.Message.{Message}
 use Rattle.curp_model.specs.Manager.{ManagerState, Migration, Shape}
 use Rattle.curp_model.specs.World.{World, messages}
 use Rattle.curp_facts.specs.Facts.{IsMasterOf, WasOrdered, WasSent}
-use Rattle.curp_law_kept.proofs.Moved.{given_back, sent_back, sent_cases, sent_now}
+use Rattle.curp_law_kept.proofs.ManagerWorlds.{sent_cases, sent_now}
+use Rattle.curp_law_kept.proofs.Moved.{given_back, sent_back}
 use Rattle.curp_facts.specs.Names.{IsAdoptedMaster, Names}
 use Rattle.curp_law_kept.proofs.Entries.{ordered_later}
 use Rattle.curp_law_kept.proofs.Replies.{entry_stored_later}
-use Rattle.curp_law_kept.proofs.Words.{Follows, given_later, sent_later}
+use Rattle.curp_law_kept.proofs.Words.{Follows, given_stays, sent_later}
 use Rattle.curp_law_runs.specs.Orders.{BeginsMigration, Ends, MayOrder, Orders, Stays}
 use Rattle.curp_facts.specs.Routes.{InWork, IsMigrationDone, IsGiveOf, IsMoving, Routes, order_of}
 
@@ -31,7 +32,7 @@ module _ {w v : World} (s : Follows w v) where
   -- what was ordered before is ordered, and by names to one partition
   old_order : Names v → (part : ℕ) (b : Body) (k : WasOrdered v part b) → IsAdoptedMaster w k.node → WasSent w (says manager_node k.node b) → WasOrdered w part b
   old_order now part b k master was =
-      let same = (now.agree master.lists k.is.lists (given_later s master.was.given) k.is.given).by_master (master.its_master ∙ sym k.is.its_master) in
+      let same = (now.agree master.lists k.is.lists (given_stays s master.was.given) k.is.given).by_master (master.its_master ∙ sym k.is.its_master) in
       record {
         node = k.node;
         is = record { lists = master.lists; given = master.was.given; its_master = master.its_master; its_part = same.0 ∙ k.is.its_part };
@@ -41,7 +42,7 @@ module _ {w v : World} (s : Follows w v) where
   -- the partition of a master is one
   one_part : Names v → (part other : ℕ) (node : NodeId) → IsMasterOf v part node → IsMasterOf w other node → part ≡ other
   one_part now part other node is was =
-      let same = (now.agree is.lists was.lists is.given (given_later s was.given)).by_master (is.its_master ∙ sym was.its_master) in
+      let same = (now.agree is.lists was.lists is.given (given_stays s was.given)).by_master (is.its_master ∙ sym was.its_master) in
       sym is.its_part ∙ same.0 ∙ was.its_part
 
 -- ---- a step of a node that isn't the manager
@@ -324,7 +325,7 @@ module _ {w v : World} (s : Follows w v) (now : Names v) (routes : Routes w) (r 
     begun_ordered : WasOrdered v b.m.source (body.TakeOut (order_of b.m))
     begun_ordered = record {
       node = b.node;
-      is = record { lists = b.is.lists; given = given_later s b.is.given; its_master = b.is.its_master; its_part = b.is.its_part };
+      is = record { lists = b.is.lists; given = given_stays s b.is.given; its_master = b.is.its_master; its_part = b.is.its_part };
       sent = sent_now w v r.messages e b.ordered;
     }
 
