@@ -1,12 +1,16 @@
 #!/usr/bin/env python3
-"""Finds lemmas and definitions that nothing cites.
+"""Finds lemmas and definitions that nothing cites, and what passes by the front of a crate of laws.
 
     tools/uncited.py            tells each, with its file and line; ends with 1 where there is one
-    tools/uncited.py --cut      takes them out of the files, with the comments above them and what only they imported
+    tools/uncited.py --cut      takes lemmas and definitions out of the files, with the comments above them and what only they
+                                imported
 
 What stands in the files of specs/ and proofs/ is cited by code (contracts, models, tactics), by the invariants and answers of
 a function's proof, and by what is itself cited. A name is cited where it stands as a word in a file that could mean it: one
 that imports it or its module, or its own. So what this finds is cited by nothing; it may miss some.
+
+Of a crate of laws other crates import lemmas from proofs/Gives.antt alone, which passes on what stands in its other files, and
+nothing that no other crate imports.
 """
 
 import argparse
@@ -21,6 +25,7 @@ PATH = re.compile(r"[\w.+]+\.[^\s(){}\[\];,:]+")
 HEAD = re.compile(r"^ *(?:(?:pub|abbrev|unfoldable|opaque)\s+)*(?:(?:record|data|ruleset)\s+)?([^\s(){}:;,.\-][^\s(){}:;,.]*)\s.*?(?::|where|=)")
 IMPORT = re.compile(r"^\s*(?:ghost\s+)?(?:pub\s+)?use\s+Rattle\.([\w.+]+?)(?:\.\{([^}]*)\})?(?:\s+as\s+([^\s;]+))?;?\s*$")
 IN_TACTIC = re.compile(r"crate::((?:specs|proofs)(?:::\w+)*)::([^\s,();\]]+)")
+LAW, GIVES = re.compile(r"curp_law_\w+"), "proofs.Gives"
 NOT_NAMES = {"use", "pub", "module", "mod", "unfolding", "mutual", "infixl", "infixr", "infix", "ruleset", "syntax", "where", "open"}
 
 
@@ -115,6 +120,36 @@ def has_definitions(file):
     return file.path.suffix == ".antt" and file.path.parent.name in ("specs", "proofs") or ".specs." in file.module
 
 
+def passed_on(files):
+    """What a file passes on by `pub use`, as a module and a name, with what it is."""
+    return {
+        (file.module, other): meant
+        for file in files
+        for at, found in file.imports.items()
+        if file.lines[at].startswith("pub use") and found[2] is not None
+        for other, meant in ((it.rpartition(" as ")[2], (found[1], it.partition(" as ")[0])) for it in names_in(found[2]))
+    }
+
+
+def past_the_front(files):
+    """Imports of lemmas of a crate of laws by another crate that aren't of its `Gives`, and what a `Gives` passes on to nobody."""
+    imported = set()
+    for file in files:
+        for at, found in file.imports.items():
+            crate, _, rest = found[1].partition(".")
+            if crate == file.crate or not LAW.fullmatch(crate) or not rest.startswith("proofs"):
+                continue
+            imported.update((found[1], it.partition(" as ")[0]) for it in names_in(found[2] or ""))
+            if rest != GIVES or found[2] is None:
+                yield file, at, f"{found[1]} is imported, and not names of {crate}.{GIVES}"
+    for file in files:
+        if LAW.fullmatch(file.crate) and file.module == f"{file.crate}.{GIVES}":
+            for at, found in file.imports.items():
+                for name in names_in(found[2] or ""):
+                    if (file.module, name.rpartition(" as ")[2]) not in imported:
+                        yield file, at, f"{name} is passed on, and no other crate imports it"
+
+
 def all_files():
     paths = (it for kind in ("src", "specs", "proofs") for it in sorted(CRATES.glob(f"*/{kind}/**/*")))
     return [File(it) for it in paths if it.suffix in (".rt", ".antt") and it.stem != "Lib"]
@@ -138,11 +173,13 @@ def uncited(files):
     known = defaultdict(list)
     for block in (it for all in blocks.values() for it in all):
         known[block.file.module, block.name].append(block)
-    found = [key for file in files for key in roots(file, blocks[file]) if key in known]
+    given = passed_on(files)
+    found = [key for file in files for it in roots(file, blocks[file]) if (key := given.get(it, it)) in known]
     live = set(found)
     while found:
         for block in known[found.pop()]:
-            more = {key for word in block.words for key in block.file.meant_by(word) if key in known} - live
+            meant = (it for word in block.words for it in block.file.meant_by(word))
+            more = {key for it in meant if (key := given.get(it, it)) in known} - live
             live |= more
             found += more
     return [block for key in known if key not in live for block in known[key]], sum(map(len, known.values()))
@@ -171,6 +208,8 @@ def without(file, gone, names_gone):
             names = names_in(found[2])
             kept = [it for it in names if (found[1], it.partition(" as ")[0]) not in names_gone and (not gone or is_used(it, text))]
             if not kept:
+                while line.startswith("pub use") and lines and re.match(r"--(?! ----)", lines[-1]):
+                    lines.pop()
                 continue
             line = line.replace("{" + found[2] + "}", "{" + ", ".join(kept) + "}") if kept != names else line
         lines.append(line)
@@ -194,10 +233,13 @@ def main():
     dead, count = uncited(files)
     for block in sorted(dead, key=lambda it: (it.file.path, it.first)):
         print(f"{block.file.path.relative_to(CRATES)}:{block.first + 1}: {block.name}")
-    print(f"{len(dead)} of {count} lemmas and definitions are cited by nothing")
+    past = list(past_the_front(files))
+    for file, at, why in past:
+        print(f"{file.path.relative_to(CRATES)}:{at + 1}: {why}")
+    print(f"{len(dead)} of {count} lemmas and definitions are cited by nothing, {len(past)} imports pass by the front of a crate of laws")
     if words.cut:
         cut(files, dead)
-    return 1 if dead else 0
+    return 1 if dead or past else 0
 
 
 if __name__ == "__main__":

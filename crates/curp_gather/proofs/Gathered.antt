@@ -4,7 +4,7 @@ use Rattle.std.specs.Global.{Vec}
 use Rattle.curp_msg.specs.Limits.{step_limit, weight_limit}
 use Rattle.curp_msg.specs.declared.script.Header.{Header}
 use Rattle.curp_msg.specs.declared.script.Step.{Step}
-use Rattle.curp_law_weave.proofs.Weaving.{legal_runs}
+use Rattle.curp_law_weave.proofs.Gives.{legal_runs}
 use Rattle.curp_merge.specs.Causes.{IsCause}
 use Rattle.curp_merge.specs.Merging.{AreJournals, Merged, turn_count, weight_sent}
 use Rattle.curp_merge.specs.declared.error.GatherError.{GatherError}

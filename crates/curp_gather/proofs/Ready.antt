@@ -21,8 +21,7 @@ use Rattle.curp_journal.specs.Turns.{AreApart, Journal, Placed}
 use Rattle.curp_law_weave.specs.NodeStates.{ABackup, AClient, AManager, AMaster, AWitness, NodeState, machine_of, opening_of, state_of}
 use Rattle.curp_law_weave.specs.Openings.{ComesAs, OpensAs}
 use Rattle.curp_law_weave.specs.Run.{IsJournalOf, Legal, RunOf, TakesFirst}
-use Rattle.curp_law_weave.proofs.ByKind.{backup_journal, client_journal, manager_journal, master_journal, witness_journal}
-use Rattle.curp_law_weave.proofs.Openings.{backup_comes, backup_opens, client_opens, manager_opens, master_comes, master_opens, witness_comes, witness_opens}
+use Rattle.curp_law_weave.proofs.Gives.{backup_journal, client_journal, manager_journal, master_journal, witness_journal, backup_comes, backup_opens, client_opens, manager_opens, master_comes, master_opens, witness_comes, witness_opens}
 use Rattle.curp_merge.specs.Merging.{AreJournals, Merged, weight_sent}
 use Rattle.curp_merge.proofs.Sums.{weight_of_turns}
 use Rattle.curp_nodes.specs.Machines.{backup_machine, client_machine, manager_machine, master_machine, witness_machine}

@@ -1,120 +1,121 @@
-pub mod Deeds
-pub mod KeepersGrow
-pub mod MastersGrow
-pub mod Switches
-pub mod RecoveriesGrow
-pub mod ManagersGrow
-pub mod WorldsGrow
-pub mod After
-pub mod Reached
-pub mod NumberedLists
-pub mod Later
-pub mod Moves
-pub mod Keeps
-pub mod ManagerWorlds
-pub mod Quiet
-pub mod Says
-pub mod Adoptions
-pub mod Named
-pub mod Orders
-pub mod RecoveryNames
-pub mod Replacements
-pub mod ManagerNames
-pub mod Fits
-pub mod KeepersFit
-pub mod ClientsFit
-pub mod Servings
-pub mod Recoverings
-pub mod OthersNames
-pub mod OpenedNames
-pub mod Runs
-pub mod Laws
-pub mod Homes
-pub mod Values
-pub mod Ranges
-pub mod Stores
-pub mod Tables
-pub mod Logs
-pub mod Packages
-pub mod Standings
-pub mod Records
-pub mod Noted
-pub mod GivesFit
-pub mod Untouched
-pub mod Replayed
-pub mod Early
-pub mod Frozen
-pub mod Reaches
-pub mod Behind
-pub mod LogValues
-pub mod Migrations
-pub mod Taken
-pub mod Brought
-pub mod ImagesOfLists
-pub mod BackupEffects
-pub mod HeldApart
-pub mod WitnessEffects
-pub mod PendingLists
-pub mod Histories
-pub mod Numbers
-pub mod Evidence
-pub mod ClientEffects
-pub mod ClientLater
-pub mod MasterLists
-pub mod Firsts
-pub mod Pushed
-pub mod Completed
-pub mod Parts
-pub mod Clean
-pub mod Serving
-pub mod Updates
-pub mod Captures
-pub mod Suspects
-pub mod Ordered
-pub mod Among
-pub mod Replays
-pub mod Recovering
-pub mod Synced
-pub mod Settled
-pub mod Acknowledging
-pub mod Relisting
-pub mod Migrating
-pub mod Inputs
-pub mod Words
-pub mod Entries
-pub mod Replies
-pub mod KeepersStay
-pub mod Prepared
-pub mod Said
-pub mod Nodes
-pub mod MastersStay
-pub mod Apart
-pub mod Moved
-pub mod Known
-pub mod Backups
-pub mod Witnesses
-pub mod Completes
-pub mod Clients
-pub mod Others
-pub mod ClientSteps
-pub mod KeeperSteps
-pub mod Worlds
-pub mod MastersHeard
-pub mod MastersMoves
-pub mod MastersReady
-pub mod MastersKept
-pub mod MastersSay
-pub mod MastersPrepared
-pub mod MastersRecovering
-pub mod MastersSaid
-pub mod MasterSteps
-pub mod ManagersSay
-pub mod ManagersAdopt
-pub mod ManagersDo
-pub mod ManagersReady
-pub mod ManagersKeep
-pub mod Opened
-pub mod Steps
-pub mod Cases
-pub mod Movers
-pub mod Followed
+pub mod Gives
+mod Deeds
+mod KeepersGrow
+mod MastersGrow
+mod Switches
+mod RecoveriesGrow
+mod ManagersGrow
+mod WorldsGrow
+mod After
+mod Reached
+mod NumberedLists
+mod Later
+mod Moves
+mod Keeps
+mod ManagerWorlds
+mod Quiet
+mod Says
+mod Adoptions
+mod Named
+mod Orders
+mod RecoveryNames
+mod Replacements
+mod ManagerNames
+mod Fits
+mod KeepersFit
+mod ClientsFit
+mod Servings
+mod Recoverings
+mod OthersNames
+mod OpenedNames
+mod Runs
+mod Laws
+mod Homes
+mod Values
+mod Ranges
+mod Stores
+mod Tables
+mod Logs
+mod Packages
+mod Standings
+mod Records
+mod Noted
+mod GivesFit
+mod Untouched
+mod Replayed
+mod Early
+mod Frozen
+mod Reaches
+mod Behind
+mod LogValues
+mod Migrations
+mod Taken
+mod Brought
+mod ImagesOfLists
+mod BackupEffects
+mod HeldApart
+mod WitnessEffects
+mod PendingLists
+mod Histories
+mod Numbers
+mod Evidence
+mod ClientEffects
+mod ClientLater
+mod MasterLists
+mod Firsts
+mod Pushed
+mod Completed
+mod Parts
+mod Clean
+mod Serving
+mod Updates
+mod Captures
+mod Suspects
+mod Ordered
+mod Among
+mod Replays
+mod Recovering
+mod Synced
+mod Settled
+mod Acknowledging
+mod Relisting
+mod Migrating
+mod Inputs
+mod Words
+mod Entries
+mod Replies
+mod KeepersStay
+mod Prepared
+mod Said
+mod Nodes
+mod MastersStay
+mod Apart
+mod Moved
+mod Known
+mod Backups
+mod Witnesses
+mod Completes
+mod Clients
+mod Others
+mod ClientSteps
+mod KeeperSteps
+mod Worlds
+mod MastersHeard
+mod MastersMoves
+mod MastersReady
+mod MastersKept
+mod MastersSay
+mod MastersPrepared
+mod MastersRecovering
+mod MastersSaid
+mod MasterSteps
+mod ManagersSay
+mod ManagersAdopt
+mod ManagersDo
+mod ManagersReady
+mod ManagersKeep
+mod Opened
+mod Steps
+mod Cases
+mod Movers
+mod Followed

@@ -1,6 +1,6 @@
 //! What holds after every step of every script: each step keeps what nodes and messages keep (`Invariant`, in
 //! `curp_facts`). This is a part of the proof of the laws of `curp_law_runs` and `curp_law_linear`, and has no law of its
-//! own. What stands in `proofs/`, by subject:
+//! own; `proofs/Gives.antt` has what others cite of it. What stands in `proofs/`, by subject:
 //!
 //! - **Logs, tables, ranges, packages, replays and values at one hash**, which need no world: `Logs`, `Pushed`, `Records`,
 //!   `Noted`, `Standings`, `Tables`, `Firsts`, `Completed`, `Ranges`, `Migrations`, `Taken`, `GivesFit`, `Packages`,

@@ -34,8 +34,7 @@ use Rattle.curp_law_linear.proofs.Managers.{moved_line, moved_marks}
 use Rattle.curp_law_linear.proofs.ManagersLine.{entries_grown, seat, seated, seated_grown, seated_parts}
 use Rattle.curp_law_linear.proofs.Parts.{entry_part}
 use Rattle.curp_facts.specs.Names.{Names}
-use Rattle.curp_law_kept.proofs.Later.{Later}
-use Rattle.curp_law_kept.proofs.ManagerWorlds.{manager_moved}
+use Rattle.curp_law_kept.proofs.Gives.{Later, manager_moved}
 use Rattle.curp_facts.specs.Predecessors.{Predecessors}
 use Rattle.curp_facts.specs.Migrated.{Migrated}
 use Rattle.curp_facts.specs.Routes.{Routes}

@@ -30,12 +30,11 @@ use Rattle.curp_facts.specs.Kept.{AdoptedLog}
 use Rattle.curp_facts.specs.Reach.{EarlySaid, HasMany, Reach, SyncedSaid, Tells}
 use Rattle.curp_facts.specs.Said.{ReplyHolds, ReplySaid, StoredEntry}
 use Rattle.curp_facts.specs.Known.{Known}
-use Rattle.curp_law_kept.proofs.Known.{said}
+use Rattle.curp_law_kept.proofs.Gives.{said, each_touched}
 use Rattle.curp_law_linear.specs.Line.{IsCompleted}
 use Rattle.curp_law_linear.specs.Moves.{Adopt, IsReplayedAs}
 use Rattle.curp_law_linear.specs.OfWorld.{part_of}
 use Rattle.curp_law_linear.proofs.Lists.{from_filter}
-use Rattle.curp_law_kept.proofs.Ranges.{each_touched}
 use Rattle.curp_law_linear.specs.Ordered.{Ordered}
 use Rattle.curp_law_linear.proofs.AdoptHeld.{held_apart, held_update}
 use Rattle.curp_law_linear.proofs.AdoptMigrations.{adopted_at, goes_at, one_entry, stored_stays}
@@ -45,12 +44,7 @@ use Rattle.curp_law_linear.proofs.ManagersMoves.{adopted_entry, entry_here, told
 use Rattle.curp_law_linear.proofs.Parts.{entry_part, part_log}
 use Rattle.curp_facts.specs.Names.{Top}
 use Rattle.curp_facts.specs.Predecessors.{Predecessors}
-use Rattle.curp_law_runs.proofs.Completed.{completed_update}
-use Rattle.curp_law_runs.proofs.Logs.{reached}
-use Rattle.curp_law_runs.proofs.Pairs.{completable_at, completable_stands, pairs_good, stands_along}
-use Rattle.curp_law_runs.proofs.Requests.{one_command}
-use Rattle.curp_law_runs.proofs.Witnessed.{early}
-use Rattle.curp_law_runs.proofs.Words.{one_log}
+use Rattle.curp_law_runs.proofs.Gives.{completed_update, reached, completable_at, completable_stands, pairs_good, stands_along, one_command, early, one_log}
 use Rattle.curp_facts.specs.Migrated.{AllStored, Migrated, OpStored}
 use Rattle.curp_facts.specs.Routes.{Routes}
 use Rattle.curp_law_linear.proofs.Found.{none_any}

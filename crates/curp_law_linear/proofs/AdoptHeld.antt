@@ -20,7 +20,7 @@ use Rattle.curp_law_linear.specs.Moves.{IsHeldUpdate}
 use Rattle.curp_law_linear.specs.OfWorld.{cut_length, line_of}
 use Rattle.curp_law_linear.proofs.Hashes.{key_touches}
 use Rattle.curp_law_linear.proofs.Lists.{in_filter}
-use Rattle.curp_law_kept.proofs.Frozen.{frozen_apart, kept_held}
+use Rattle.curp_law_kept.proofs.Gives.{frozen_apart, kept_held}
 use Rattle.curp_law_linear.specs.Ordered.{Ordered, IsLow}
 use Rattle.curp_law_linear.proofs.AdoptRecovery.{Recovery}
 use Rattle.curp_law_linear.proofs.ReadsLater.{quick_capture}

@@ -24,7 +24,7 @@ use Rattle.curp_model.specs.World.{World, messages}
 use Rattle.curp_facts.specs.Facts.{HasLog, IsAdoptedNow, IsAmong, WasSent, hi_of, lo_of}
 use Rattle.curp_facts.specs.Kept.{AdoptedLog}
 use Rattle.curp_facts.specs.Known.{Known}
-use Rattle.curp_law_kept.proofs.Known.{fits}
+use Rattle.curp_law_kept.proofs.Gives.{fits}
 use Rattle.curp_law_linear.specs.Hashes.{Part, is_give, is_take, owns}
 use Rattle.curp_law_linear.specs.Line.{Ungiven}
 use Rattle.curp_law_linear.specs.Moves.{OnlyMoving}
@@ -38,7 +38,7 @@ use Rattle.curp_law_linear.proofs.AdoptRecovery.{Recovery}
 use Rattle.curp_law_linear.proofs.ManagersMoves.{adopted_entry, adopted_ok}
 use Rattle.curp_law_linear.proofs.Parts.{adopted_or_none, part_entry, part_log}
 use Rattle.curp_facts.specs.Names.{IsOf}
-use Rattle.curp_law_runs.proofs.Words.{one_log}
+use Rattle.curp_law_runs.proofs.Gives.{one_log}
 use Rattle.curp_facts.specs.Migrated.{AllStored, Migrated, OnlyInWork, TakeStored}
 use Rattle.curp_facts.specs.Routes.{Routes, order_of}
 use Rattle.curp_law_linear.proofs.Found.{none_any}

@@ -21,7 +21,7 @@ use Rattle.curp_facts.specs.Kept.{lists_of_master}
 use Rattle.curp_facts.specs.Nodes.{IsWaiting, MasterOk, StageOk}
 use Rattle.curp_facts.specs.Said.{RecoveredSaid}
 use Rattle.curp_facts.specs.Known.{Known}
-use Rattle.curp_law_kept.proofs.Known.{said}
+use Rattle.curp_law_kept.proofs.Gives.{said}
 use Rattle.curp_law_linear.specs.OfWorld.{part_of}
 use Rattle.curp_law_linear.proofs.ManagersDeeds.{Recovers}
 use Rattle.curp_law_linear.proofs.Parts.{part_log}

@@ -28,7 +28,7 @@ use Rattle.curp_base.proofs.Numbered.{numbered_set_cases}
 use Rattle.curp_law_linear.proofs.Orders.{Split, answered_is, answered_there, distinct_append, place_in_prefix, prefix_of, same_prefixes, split_in}
 use Rattle.curp_law_linear.proofs.Requests.{asked_all_in, asked_of_in, first_on, in_asked_all}
 use Rattle.curp_model.proofs.Replays.{op_in_ops}
-use Rattle.curp_law_kept.proofs.Behind.{came_from_append, came_kept}
+use Rattle.curp_law_kept.proofs.Gives.{came_from_append, came_kept}
 
 module _ (it : Adopting) where
   -- ---- no request stands twice

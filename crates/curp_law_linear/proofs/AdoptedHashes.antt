@@ -21,7 +21,7 @@ use Rattle.curp_law_linear.proofs.Lists.{empty_list, some_or_none}
 use Rattle.curp_base.proofs.Numbered.{numbered_set_cases, numbered_set_other}
 use Rattle.curp_law_linear.proofs.Orders.{behind_asked}
 use Rattle.curp_law_linear.proofs.Requests.{asked_of_ops, ops_any}
-use Rattle.curp_law_kept.proofs.Behind.{behind_from_append, came_from_append, came_kept}
+use Rattle.curp_law_kept.proofs.Gives.{behind_from_append, came_from_append, came_kept}
 
 module _ (it : Adopting) where
   -- ---- the equation afterwards

@@ -15,12 +15,12 @@ use Rattle.curp_model.specs.World.{World, opening, opening_master, run, shape_of
 use Rattle.curp_facts.specs.Facts.{HasLog, IsAdoptedNow, lists_of_part}
 use Rattle.curp_facts.specs.Growth.{Grows, LifeGrows}
 use Rattle.curp_facts.specs.Kept.{AdoptedLog, AdoptionOk}
-use Rattle.curp_law_kept.proofs.WorldsGrow.{step_grows}
+use Rattle.curp_law_kept.proofs.Gives.{step_grows}
 use Rattle.curp_facts.specs.Known.{Known}
 use Rattle.curp_law_linear.specs.Serves.{OpeningServes}
 use Rattle.curp_facts.specs.Names.{GivenOk, Top}
 use Rattle.curp_facts.specs.Predecessors.{Predecessors}
-use Rattle.curp_law_runs.proofs.Adoptions.{adoptions_ok}
+use Rattle.curp_law_runs.proofs.Gives.{adoptions_ok}
 use Rattle.curp_base.proofs.Numbered.{numbers_at}
 
 -- they serve at opening

@@ -40,8 +40,7 @@ use Rattle.curp_law_linear.proofs.Ops.{one_command}
 use Rattle.curp_law_linear.proofs.Orders.{behind_asked, core, distinct_split}
 use Rattle.curp_law_linear.proofs.Requests.{asked_all_in, asked_of_in, distinct_asked_all, distinct_asked_of, in_asked_all, one_on, ops_any, owned_ops}
 use Rattle.curp_law_linear.proofs.Takes.{onward_ungiven}
-use Rattle.curp_law_kept.proofs.Values.{on_append}
-use Rattle.curp_law_kept.proofs.Behind.{behind_from_append}
+use Rattle.curp_law_kept.proofs.Gives.{on_append, behind_from_append}
 
 module _ (it : Adopting) where
   -- ---- what goes

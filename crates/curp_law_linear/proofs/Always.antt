@@ -22,16 +22,8 @@ use Rattle.curp_facts.specs.Growth.{Grows}
 use Rattle.curp_facts.specs.Kept.{AdoptedLog}
 use Rattle.curp_law_kept.specs.Deeds.{IsFor}
 use Rattle.curp_base.proofs.Numbered.{numbered_set_same}
-use Rattle.curp_law_kept.proofs.BackupEffects.{backup_effect}
-use Rattle.curp_law_kept.proofs.WitnessEffects.{witness_effect}
-use Rattle.curp_law_kept.proofs.Cases.{RestsIn}
-use Rattle.curp_law_kept.proofs.ClientSteps.{ClientMoved}
-use Rattle.curp_law_kept.proofs.Followed.{master_step, master_world}
-use Rattle.curp_law_kept.proofs.KeeperSteps.{KeeperMoved}
+use Rattle.curp_law_kept.proofs.Gives.{backup_effect, witness_effect, RestsIn, ClientMoved, master_step, master_world, KeeperMoved, heard_in, input_idle, speaker, MasterStep, SaysMore, nothing_ready, other_item, same_history, Later, step_follows}
 use Rattle.curp_facts.specs.Known.{Known}
-use Rattle.curp_law_kept.proofs.MastersMoves.{heard_in, input_idle, speaker, MasterStep}
-use Rattle.curp_law_kept.proofs.Others.{SaysMore, nothing_ready}
-use Rattle.curp_law_kept.proofs.Worlds.{other_item, same_history}
 use Rattle.curp_law_linear.specs.Line.{LineOk}
 use Rattle.curp_law_linear.specs.OfWorld.{cuts, line_of}
 use Rattle.curp_law_linear.proofs.Discharged.{pure, second}
@@ -49,14 +41,12 @@ use Rattle.curp_law_linear.proofs.ReadsLater.{ReadsOk}
 use Rattle.curp_law_linear.proofs.ReadsMasterSteps.{master_reads}
 use Rattle.curp_law_linear.proofs.ReadsQuiet.{client_reads, frame_reads, looks_same, none_late, none_lives}
 use Rattle.curp_law_kept.specs.GivesFit.{GivesFit}
-use Rattle.curp_law_kept.proofs.Later.{Later}
 use Rattle.curp_facts.specs.Predecessors.{Predecessors}
 use Rattle.curp_facts.specs.Migrated.{Migrated}
 use Rattle.curp_law_linear.proofs.MastersInput.{StageInput, Slow, Quickly, stage_input, nothing_pushed}
 use Rattle.curp_law_linear.proofs.QuickReads.{quick_refines, quick_reads}
 use Rattle.curp_law_linear.proofs.CutsTimes.{timed_stay}
 use Rattle.curp_law_linear.proofs.CutMarks.{cuts_marked}
-use Rattle.curp_law_kept.proofs.MastersReady.{step_follows}
 use Rattle.curp_msg.specs.declared.message.Message.{Message}
 use Rattle.curp_model.specs.Master.{MasterState}
 use Rattle.curp_facts.specs.Routes.{Routes}

@@ -22,7 +22,7 @@ use Rattle.curp_law_linear.proofs.Given.{LogValue}
 use Rattle.curp_law_linear.proofs.Lists.{in_any, in_head, in_right}
 use Rattle.curp_law_linear.proofs.Takes.{onward_ungiven}
 use Rattle.curp_law_linear.specs.Moves.{IsOnItsWay}
-use Rattle.curp_law_kept.proofs.Behind.{behind_from_append, came_from_append, came_kept}
+use Rattle.curp_law_kept.proofs.Gives.{behind_from_append, came_from_append, came_kept}
 
 -- what a package has of a key of its range
 pub packed_value : (s : LogState) (lo hi : ℕ) (ordered : lo ≤ hi) (key : List ℕ) → is_in lo hi (hash_of key) ≡ true → find (slice_cmp nat_cmp) key (package_of s lo hi ordered).pairs ≡ store.get s.store key

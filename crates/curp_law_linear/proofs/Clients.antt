@@ -38,9 +38,9 @@ use Rattle.curp_law_runs.specs.Answered.{AnsweredBy}
 use Rattle.curp_law_linear.proofs.ReadsLater.{looked_capture, quick_capture}
 use Rattle.curp_facts.specs.Nodes.{WasSeen}
 use Rattle.curp_law_linear.proofs.QuickBegins.{flag_fits}
-use Rattle.curp_law_kept.proofs.NumberedLists.{among_each}
+use Rattle.curp_law_kept.proofs.Gives.{among_each}
 use Rattle.curp_law_linear.proofs.CutMarks.{hit_capture}
-use Rattle.curp_law_runs.proofs.Pairs.{completable_at, completable_stands, stands_along}
+use Rattle.curp_law_runs.proofs.Gives.{completable_at, completable_stands, stands_along}
 
 module _ {w : World} (known : Known w) (chain : Predecessors w) (migrated : Migrated w) (ordered : Ordered w) where
   -- ---- updates

@@ -29,11 +29,8 @@ use Rattle.curp_facts.specs.Nodes.{MayCome, WasSeen}
 use Rattle.curp_facts.specs.Said.{WorthSaid}
 use Rattle.curp_law_kept.specs.Deeds.{IsFor}
 use Rattle.curp_law_kept.specs.ClientEffect.{ByValue, ClientAsks, ClientEffect, ClientSays, CompletionOk, MayComplete, events_after, ByQuick}
-use Rattle.curp_law_kept.proofs.Numbers.{never_invoked, waiting}
-use Rattle.curp_law_kept.proofs.Clients.{effect}
-use Rattle.curp_law_kept.proofs.Completes.{by_accepts, by_synced}
+use Rattle.curp_law_kept.proofs.Gives.{never_invoked, waiting, effect, by_accepts, by_synced, said}
 use Rattle.curp_facts.specs.Known.{Known}
-use Rattle.curp_law_kept.proofs.Known.{said}
 use Rattle.curp_law_linear.specs.Line as line
 use Rattle.curp_law_linear.specs.Moves.{Completes, Flags, FlagFits, Invokes}
 use Rattle.curp_law_linear.specs.OfWorld.{line_of, told_by}

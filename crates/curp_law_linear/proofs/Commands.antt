@@ -19,7 +19,7 @@ use Rattle.curp_model.specs.Recovery.{master_input}
 use Rattle.curp_model.specs.Witness.{witness_input}
 use Rattle.curp_model.specs.World.{World, completion, invocation_of}
 use Rattle.curp_cmd.specs.Store.{NamesKey}
-use Rattle.curp_law_kept.proofs.Cases.{ByBackup, ByClient, ByManager, ByMaster, ByWitness, InvokesKey, Rests, StepCase, Stays}
+use Rattle.curp_law_kept.proofs.Gives.{ByBackup, ByClient, ByManager, ByMaster, ByWitness, InvokesKey, Rests, StepCase, Stays}
 
 -- each command that is invoked in these events names a key
 abbrev pub CommandsName : List Event → Type 0

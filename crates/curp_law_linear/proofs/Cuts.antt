@@ -30,11 +30,10 @@ use Rattle.curp_model.specs.Named.{IsBackup}
 use Rattle.curp_facts.specs.Kept.{AdoptionOk}
 use Rattle.curp_facts.specs.Nodes.{BackupOk}
 use Rattle.curp_facts.specs.Predecessors.{Predecessors}
-use Rattle.curp_law_runs.proofs.Adoptions.{adoptions_ok}
-use Rattle.curp_law_runs.proofs.Words.{one_backup}
+use Rattle.curp_law_runs.proofs.Gives.{adoptions_ok, one_backup}
 use Rattle.curp_msg.specs.declared.body.Body.TheVariants as body
 use Rattle.curp_msg.specs.declared.body.Recover.{Recover}
-use Rattle.curp_law_kept.proofs.Words.{Follows, adopted_stays, master_later, backup_later, sent_later}
+use Rattle.curp_law_kept.proofs.Gives.{Follows, adopted_stays, master_later, backup_later, sent_later}
 
 -- ---- where no recovery is adopted
 

@@ -18,13 +18,13 @@ use Rattle.curp_law_linear.proofs.Cuts.{last_reign, log_grows, low_later, part_l
 use Rattle.curp_law_linear.proofs.ReadsManager.{AdoptsRecovery}
 use Rattle.curp_law_linear.proofs.ReadsStored.{from_stays}
 use Rattle.curp_facts.specs.Predecessors.{Predecessors}
-use Rattle.curp_law_runs.proofs.Words.{one_backup}
+use Rattle.curp_law_runs.proofs.Gives.{one_backup}
 use Rattle.curp_model.specs.Backup.{BackupState}
 use Rattle.curp_model.specs.Named.{IsBackup}
 use Rattle.curp_msg.specs.Moved.{says}
 use Rattle.curp_msg.specs.declared.body.Body.TheVariants as body
 use Rattle.curp_msg.specs.declared.body.Recover.{Recover}
-use Rattle.curp_law_kept.proofs.Words.{Follows, sent_later}
+use Rattle.curp_law_kept.proofs.Gives.{Follows, sent_later}
 
 -- one more adoption, one more master
 map_push : {A B : Type 0} (f : A → B) (xs : List A) (x : A) → map f (xs ++ x ∷ []) ≡ map f xs ++ f x ∷ []

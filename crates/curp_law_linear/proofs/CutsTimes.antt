@@ -11,7 +11,7 @@ use Rattle.curp_msg.specs.declared.body.Body.TheVariants as body
 use Rattle.curp_facts.specs.Known.{Known}
 use Rattle.curp_facts.specs.Predecessors.{Predecessors}
 use Rattle.curp_law_linear.specs.Ordered.{Ordered, CutsTimed}
-use Rattle.curp_law_kept.proofs.Words.{Follows, sent_later}
+use Rattle.curp_law_kept.proofs.Gives.{Follows, sent_later, said}
 use Rattle.curp_law_linear.specs.Refined.{Refines}
 use Rattle.curp_cmd.specs.declared.command.RequestId.{RequestId}
 use Rattle.curp_cmd.specs.declared.command.Command.{Command}
@@ -27,7 +27,6 @@ use Rattle.curp_law_linear.proofs.QuickRuns.{cut_early_on}
 use Rattle.curp_facts.specs.Kept.{AdoptionOk}
 use Rattle.curp_order.specs.declared.Event.TheVariants.{Invoke}
 use Rattle.curp_law_linear.proofs.ReadsPassed.{NoneLives}
-use Rattle.curp_law_kept.proofs.Known.{said}
 
 module _ {w v : World} (known : Known w) (chain : Predecessors w) (ordered : Ordered w) (now : Known v) (s : Follows w v) (r : Refines w v) (lives : NoneLives w v) where
   -- what was invoked before

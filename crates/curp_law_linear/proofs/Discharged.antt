@@ -6,10 +6,7 @@ use Rattle.curp_law_linear.specs.Hashes.{Part}
 use Rattle.curp_law_linear.proofs.Given.{LogsOk, Pure, Second}
 use Rattle.curp_law_kept.specs.GivesFit.{GivesFit}
 use Rattle.curp_law_kept.specs.Migrations.{NumbersAscend, give_number, take_number}
-use Rattle.curp_law_kept.proofs.LogValues.{log_value_prefix}
-use Rattle.curp_law_kept.proofs.Logs.{packed_known}
-use Rattle.curp_law_kept.proofs.Migrations.{gives_once, takes_once}
-use Rattle.curp_law_kept.proofs.Values.{answer_local, second_alone, value_local}
+use Rattle.curp_law_kept.proofs.Gives.{log_value_prefix, packed_known, gives_once, takes_once, answer_local, second_alone, value_local}
 
 pub pure : Pure
 pure = record { value_local = value_local; answer_local = answer_local; packed_known = packed_known }

@@ -16,7 +16,7 @@ use Rattle.curp_law_linear.specs.Moves.{Look, LookFits, PushExpire, PushExpireFi
 use Rattle.curp_law_linear.proofs.Hashes.{any_push, has_take_push, owned_expire, updates_append}
 use Rattle.curp_law_linear.proofs.Lines.{known_push, onward_log, onward_same}
 use Rattle.curp_law_linear.proofs.Pushes as pushes
-use Rattle.curp_law_kept.proofs.Behind.{behind_from_append, came_from_append}
+use Rattle.curp_law_kept.proofs.Gives.{behind_from_append, came_from_append}
 
 module _ (s : LineState) (ok : OrderOk s) (o : PushExpire) (fits : PushExpireFits s o) where
   abbrev p : Part

@@ -29,7 +29,7 @@ use Rattle.curp_law_linear.proofs.Lists.{in_any, in_cases, in_head, in_none, in_
 use Rattle.curp_law_linear.proofs.Pushes as pushes
 use Rattle.curp_law_linear.proofs.Spans.{owned_give}
 use Rattle.curp_law_linear.proofs.Takes.{onward_ungiven}
-use Rattle.curp_law_kept.proofs.Behind.{behind_from_append, came_from_append}
+use Rattle.curp_law_kept.proofs.Gives.{behind_from_append, came_from_append}
 
 module _ (pure : Pure) (s : LineState) (ok : OrderOk s) (o : PushGive) (fits : PushGiveFits s o) (its_value : LogValue (record fits.way.source { log = fits.way.before })) where
   abbrev p : Part

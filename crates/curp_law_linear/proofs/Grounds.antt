@@ -30,8 +30,7 @@ use Rattle.curp_law_linear.proofs.Orders.{asked_of, behind_asked}
 use Rattle.curp_law_linear.proofs.Owning.{op_owned, owns_touched}
 use Rattle.curp_law_linear.proofs.Requests.{asked_of_in, owned_ops}
 use Rattle.curp_law_linear.proofs.Spans.{owned_after, owned_before, takes}
-use Rattle.curp_law_kept.proofs.Values.{on_append}
-use Rattle.curp_law_kept.proofs.Behind.{behind_from_append}
+use Rattle.curp_law_kept.proofs.Gives.{on_append, behind_from_append}
 
 asked_of_append : (xs ys : List Entry) → asked_of (xs ++ ys) ≡ asked_of xs ++ asked_of ys
 asked_of_append [] ys = refl

@@ -23,7 +23,7 @@ use Rattle.curp_law_linear.specs.Hashes.{Part, given_on, has_take, is_take, onwa
 use Rattle.curp_law_linear.proofs.Lists.{in_cases, in_cons, in_none, or_none}
 use Rattle.curp_base.proofs.Numbered.{filter_at}
 use Rattle.curp_base.proofs.Lists.{at_mapped}
-use Rattle.curp_law_kept.proofs.Behind.{behind_from_append, came_from_append}
+use Rattle.curp_law_kept.proofs.Gives.{behind_from_append, came_from_append}
 
 pub on_none : (h : ℕ) (x : Asked) → touches x.1 h ≡ false → on h (x ∷ []) ≡ []
 on_none h x t = ap (λ (b : Bool). cond b (x ∷ []) []) t

@@ -12,10 +12,7 @@ use Rattle.curp_model.specs.Witness.{WitnessState, witness_input}
 use Rattle.curp_model.specs.World.{World, kept, messages, with_backup, with_completion, with_witness}
 use Rattle.curp_law_kept.specs.BackupEffect.{BackupAnswers, BackupEffect, BackupSays}
 use Rattle.curp_law_kept.specs.WitnessEffect.{WitnessAnswers, WitnessEffect, WitnessSays}
-use Rattle.curp_law_kept.proofs.BackupEffects.{backup_effect}
-use Rattle.curp_law_kept.proofs.WitnessEffects.{witness_effect}
-use Rattle.curp_law_kept.proofs.Cases.{RestsIn}
-use Rattle.curp_law_kept.proofs.Worlds.{same_history}
+use Rattle.curp_law_kept.proofs.Gives.{backup_effect, witness_effect, RestsIn, same_history}
 use Rattle.curp_law_linear.specs.OfWorld.{told_by}
 use Rattle.curp_law_linear.specs.Refined.{RefinesQuiet}
 use Rattle.curp_law_linear.proofs.Quiet.{no_move, tell_nothing}

@@ -28,14 +28,13 @@ use Rattle.curp_law_linear.specs.Serves.{OpeningServes}
 use Rattle.curp_law_linear.proofs.AdoptMigrations.{moving_give, moving_take}
 use Rattle.curp_law_linear.proofs.AdoptedLogs.{adopted_log}
 use Rattle.curp_law_linear.proofs.MastersRise.{adopted_ok, take_given}
-use Rattle.curp_law_steps.proofs.OpeningOwners.{opening_owner}
+use Rattle.curp_law_steps.proofs.Gives.{opening_owner}
 use Rattle.curp_law_linear.proofs.Parts.{entry_part, part_log}
 use Rattle.curp_facts.specs.Predecessors.{Predecessors}
 use Rattle.curp_facts.specs.Migrated.{Migrated, TakeStored}
 use Rattle.curp_facts.specs.Routes.{IsMigrationDone, IsGiveOf, IsMoving, Routes}
 use Rattle.curp_facts.specs.Stored.{StoredNow}
-use Rattle.curp_law_runs.proofs.Migrated.{one_stored, work_or_done}
-use Rattle.curp_law_runs.proofs.Stored.{entry_of, place_in_prefix, one_adopted, stored_now}
+use Rattle.curp_law_runs.proofs.Gives.{one_stored, work_or_done, entry_of, place_in_prefix, one_adopted, stored_now}
 use Rattle.curp_cmd.proofs.Apart.{same_number}
 
 -- behind a give its range is owned

@@ -16,9 +16,8 @@ use Rattle.curp_cmd.specs.declared.entry.Entry.{Entry}
 use Rattle.curp_model.specs.Log.{entry_touches}
 use Rattle.curp_cmd.specs.Hash.{hash_of}
 use Rattle.std.proofs.lemmas.Bool.{cases_lt}
-use Rattle.curp_law_kept.proofs.NumberedLists.{among_each}
-use Rattle.curp_law_runs.proofs.Lists.{ready}
-use Rattle.curp_law_kept.proofs.MastersHeard.{one_log}
+use Rattle.curp_law_kept.proofs.Gives.{among_each, one_log}
+use Rattle.curp_law_runs.proofs.Gives.{ready}
 use Rattle.std.proofs.Common.{◌≡◌, ap, sym, ◌∙◌, subst, arith, true, false, ℕ, List, length, refl, inl, inr, ◌≤◌, ◌<◌}
 
 -- each has its mark

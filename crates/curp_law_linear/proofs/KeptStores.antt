@@ -27,7 +27,7 @@ use Rattle.curp_law_linear.specs.Ordered.{Ordered}
 use Rattle.curp_law_linear.proofs.MastersRise.{TakeOfWork, adopted_ok, standing, take_of_work}
 use Rattle.curp_law_linear.proofs.Parts.{entry_part, line_logs, part_log}
 use Rattle.curp_law_linear.proofs.TakenRanges.{covered_before, quiet_behind}
-use Rattle.curp_law_kept.proofs.Packages.{take_package}
+use Rattle.curp_law_kept.proofs.Gives.{take_package}
 use Rattle.curp_facts.specs.Predecessors.{Predecessors}
 use Rattle.curp_facts.specs.Migrated.{Migrated}
 use Rattle.curp_facts.specs.Routes.{InWork, Routes}

@@ -13,7 +13,7 @@ use Rattle.curp_model.specs.declared.Check.TheVariants.{Expired, New, Stale}
 use Rattle.curp_model.proofs.Logs.{meaning_append, seen_entries}
 use Rattle.curp_model.proofs.Tables.{Has, not_new}
 use Rattle.curp_law_kept.specs.Hashes.{NotNew}
-use Rattle.curp_law_kept.proofs.Tables.{some_any}
+use Rattle.curp_law_kept.proofs.Gives.{some_any}
 
 abbrev Any : Noted → Type 0
 Any n = ⊤

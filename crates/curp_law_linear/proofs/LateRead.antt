@@ -27,7 +27,7 @@ use Rattle.curp_cmd.specs.declared.entry.Entry.{Entry}
 use Rattle.curp_law_linear.specs.Given.{LogsOk}
 use Rattle.curp_law_linear.proofs.Discharged.{IsPlainLog, logs_ok}
 use Rattle.curp_law_kept.specs.Migrations.{NumbersAscend, give_number, take_number}
-use Rattle.curp_law_kept.proofs.Ranges.{owns_from_touched}
+use Rattle.curp_law_kept.proofs.Gives.{owns_from_touched}
 use Rattle.curp_model.specs.Log.{is_log}
 use Rattle.curp_model.specs.Ranges.{owns_all}
 

@@ -13,9 +13,8 @@ use Rattle.curp_law_linear.proofs.KeptReads.{values_kept}
 use Rattle.curp_law_linear.proofs.KeptWorld.{kept_of_world}
 use Rattle.curp_law_linear.proofs.Runs.{orderly_all, step_keeps_order}
 use Rattle.curp_law_linear.proofs.Statements as statements
-use Rattle.curp_law_runs.proofs.Always.{migrated_now}
+use Rattle.curp_law_runs.proofs.Gives.{migrated_now, facts_all, pairs_all}
 use Rattle.curp_law_linear.proofs.KeptQuicks.{quicks_kept}
-use Rattle.curp_law_runs.proofs.Facts.{facts_all, pairs_all}
 
 module _ (h : Header) (steps : List Step) (is : IsRun h steps) where
   pub history_all : IsHistory (world h steps).history

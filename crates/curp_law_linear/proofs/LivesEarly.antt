@@ -2,7 +2,7 @@
 use Rattle.curp_model.specs.World.{World, messages, opening}
 use Rattle.curp_facts.specs.Known.{Known}
 use Rattle.curp_facts.specs.Predecessors.{Predecessors}
-use Rattle.curp_law_kept.proofs.Later.{Later}
+use Rattle.curp_law_kept.proofs.Gives.{Later, among_each, backup_effect, witness_effect, master_step, manager_does, ByBackup, ByClient, ByManager, ByMaster, ByWitness, Rests, StepCase, Stays, client_messages}
 use Rattle.curp_msg.specs.declared.message.Message.{Message}
 use Rattle.curp_cmd.specs.declared.node.NodeId.{NodeId}
 use Rattle.curp_base.specs.Words.{Each, At, numbered}
@@ -16,8 +16,7 @@ use Rattle.curp_msg.specs.declared.body.Recover.{Recover}
 use Rattle.curp_cmd.specs.Node.{manager_node, client_node, backup_node, witness_node, master_node}
 use Rattle.curp_facts.specs.Names.{RecoverOrderOk, AdoptedOk, IsOf}
 use Rattle.curp_facts.specs.Kept.{AdoptionOk, LivesEarly, adopted_by}
-use Rattle.curp_law_runs.proofs.Adoptions.{adoptions_ok}
-use Rattle.curp_law_kept.proofs.NumberedLists.{among_each}
+use Rattle.curp_law_runs.proofs.Gives.{adoptions_ok, nothing_sent}
 use Rattle.curp_facts.specs.Growth.{Grows}
 use Rattle.curp_model.specs.Client.{client_input}
 use Rattle.curp_model.specs.Backup.{backup_input}
@@ -25,17 +24,10 @@ use Rattle.curp_model.specs.Recovery.{master_input}
 use Rattle.curp_model.specs.Manager.{manager_input}
 use Rattle.curp_law_kept.specs.BackupEffect.{BackupSays}
 use Rattle.curp_law_kept.specs.WitnessEffect.{WitnessSays}
-use Rattle.curp_law_kept.proofs.BackupEffects.{backup_effect}
-use Rattle.curp_law_kept.proofs.WitnessEffects.{witness_effect}
 use Rattle.curp_law_linear.proofs.ReadsKeepers.{frozen_silent}
 use Rattle.curp_base.proofs.Numbered.{numbered_set_same}
-use Rattle.curp_law_kept.proofs.Followed.{master_step}
 use Rattle.curp_law_kept.specs.ManagerEffect.{Uttered}
-use Rattle.curp_law_kept.proofs.ManagersDo.{manager_does}
 use Rattle.curp_msg.specs.declared.script.Header.{Header}
-use Rattle.curp_law_runs.proofs.Steps.{nothing_sent}
-use Rattle.curp_law_kept.proofs.Cases.{ByBackup, ByClient, ByManager, ByMaster, ByWitness, Rests, StepCase, Stays}
-use Rattle.curp_law_kept.proofs.Clients.{client_messages}
 use Rattle.curp_msg.specs.declared.body.Body.TheVariants as body
 use Rattle.curp_cmd.specs.declared.node.NodeKind.TheVariants as kind
 use Rattle.curp_model.specs.declared.Mode.TheVariants as mode

@@ -20,8 +20,7 @@ use Rattle.curp_law_linear.proofs.ManagersLine.{entries_grown, same_seats, same_
 use Rattle.curp_law_linear.proofs.ManagersMoves.{given_fits, migrate_fits}
 use Rattle.curp_law_linear.proofs.Parts.{line_logs}
 use Rattle.curp_facts.specs.Names.{Names}
-use Rattle.curp_law_kept.proofs.Later.{Later}
-use Rattle.curp_law_kept.proofs.ManagerWorlds.{manager_moved, moved_messages, sent_now}
+use Rattle.curp_law_kept.proofs.Gives.{Later, manager_moved, moved_messages, sent_now}
 use Rattle.curp_facts.specs.Predecessors.{Predecessors}
 use Rattle.curp_facts.specs.Migrated.{Migrated}
 use Rattle.curp_facts.specs.Routes.{Routes}

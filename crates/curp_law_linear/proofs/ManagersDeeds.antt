@@ -25,8 +25,7 @@ use Rattle.curp_law_kept.specs.Deeds.{IsFor}
 use Rattle.curp_law_linear.specs.OfWorld.{moving_of}
 use Rattle.curp_law_linear.proofs.ManagersLine.{seat}
 use Rattle.curp_facts.specs.Names.{Names, RecoveringOk}
-use Rattle.curp_law_kept.proofs.Keeps.{entry_now, entry_numbered, numbered_now}
-use Rattle.curp_law_kept.proofs.NumberedLists.{there_among}
+use Rattle.curp_law_kept.proofs.Gives.{entry_now, entry_numbered, numbered_now, there_among}
 use Rattle.curp_base.proofs.Lists.{at_mapped}
 use Rattle.curp_model.proofs.Managers.{counters_stay}
 

@@ -8,8 +8,7 @@ use Rattle.curp_model.specs.World.{World}
 use Rattle.curp_facts.specs.Growth.{Grows}
 use Rattle.curp_law_kept.specs.Deeds.{IsFor}
 use Rattle.curp_facts.specs.Known.{Known}
-use Rattle.curp_law_kept.proofs.ManagersDo.{manager_does}
-use Rattle.curp_law_kept.proofs.ManagersReady.{manager_follows}
+use Rattle.curp_law_kept.proofs.Gives.{manager_does, manager_follows, Later, manager_moved, moved_messages, Follows}
 use Rattle.curp_law_linear.specs.Ordered.{Ordered}
 use Rattle.curp_law_linear.specs.Refined.{Refines, EarlyAfter}
 use Rattle.curp_law_linear.proofs.Always.{KeepsOrder}
@@ -18,12 +17,9 @@ use Rattle.curp_law_linear.proofs.ManagersRefine.{AdoptsOnly, ManagerRefines, ma
 use Rattle.curp_law_linear.proofs.ReadsAdoption.{adoption_step_reads}
 use Rattle.curp_law_linear.proofs.ReadsLater.{ReadsOk}
 use Rattle.curp_law_linear.proofs.ReadsManagerSteps.{manager_step_reads}
-use Rattle.curp_law_kept.proofs.Later.{Later}
-use Rattle.curp_law_kept.proofs.ManagerWorlds.{manager_moved, moved_messages}
 use Rattle.curp_facts.specs.Predecessors.{Predecessors}
 use Rattle.curp_facts.specs.Migrated.{Migrated}
 use Rattle.curp_facts.specs.Routes.{Routes}
-use Rattle.curp_law_kept.proofs.Words.{Follows}
 
 module _ {w : World} (known : Known w) (chain : Predecessors w) (routes : Routes w) (migrated : Migrated w) (ordered : Ordered w)
     (events : List Event) (none : events ≡ []) (given : Input) (for : IsFor w manager_node given) where

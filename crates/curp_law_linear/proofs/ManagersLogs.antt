@@ -17,13 +17,12 @@ use Rattle.curp_facts.specs.Kept.{AdoptedLog}
 use Rattle.curp_law_kept.specs.Deeds.{IsFor}
 use Rattle.curp_law_kept.specs.ManagerEffect.{ManagerEffect}
 use Rattle.curp_facts.specs.Known.{Known}
-use Rattle.curp_law_kept.proofs.ManagersDo.{manager_does}
+use Rattle.curp_law_kept.proofs.Gives.{manager_does, NoGives, gives_fit_prefix, gives_fit_more, Later, manager_moved}
 use Rattle.curp_law_linear.specs.Hashes.{Part}
 use Rattle.curp_law_linear.specs.Moves.{ops, replayed_of}
 use Rattle.curp_law_linear.specs.OfWorld.{entries_at, line_of, logged_entries, part_of}
 use Rattle.curp_base.proofs.Numbered.{numbered_set_cases}
 use Rattle.curp_law_kept.specs.GivesFit.{GivesFit}
-use Rattle.curp_law_kept.proofs.GivesFit.{NoGives, gives_fit_prefix, gives_fit_more}
 use Rattle.curp_law_linear.specs.Ordered.{AdoptedLogOk, MigrationsRise, Ordered, moved_number}
 use Rattle.curp_law_linear.proofs.Adopt.{adopted_parts}
 use Rattle.curp_law_linear.proofs.AdoptDone.{adopt}
@@ -32,8 +31,6 @@ use Rattle.curp_law_linear.proofs.ManagersDeeds.{Begins, Ends, KeepsSeats, Leads
 use Rattle.curp_law_linear.proofs.ManagersLine.{same_seats}
 use Rattle.curp_law_linear.proofs.Parts.{adopted_or_none, entry_part, numbered_mapped, part_entry, part_log}
 use Rattle.curp_facts.specs.Names.{Names}
-use Rattle.curp_law_kept.proofs.Later.{Later}
-use Rattle.curp_law_kept.proofs.ManagerWorlds.{manager_moved}
 use Rattle.curp_facts.specs.Predecessors.{Predecessors}
 use Rattle.curp_facts.specs.Migrated.{Migrated}
 use Rattle.curp_facts.specs.Routes.{Routes}

@@ -21,7 +21,7 @@ use Rattle.curp_facts.specs.Kept.{AdoptedLog}
 use Rattle.curp_facts.specs.Reach.{Reach}
 use Rattle.curp_facts.specs.Said.{IsGiveFrom, StoredEntry}
 use Rattle.curp_facts.specs.Known.{Known}
-use Rattle.curp_law_kept.proofs.Known.{said}
+use Rattle.curp_law_kept.proofs.Gives.{said}
 use Rattle.curp_law_linear.specs.Hashes.{Part, is_give, is_take}
 use Rattle.curp_law_linear.specs.Moves.{GivenFits, MigrateFits}
 use Rattle.curp_law_linear.specs.OfWorld.{line_of, moving_of, part_of}
@@ -29,8 +29,7 @@ use Rattle.curp_law_linear.specs.Ordered.{moved_number}
 use Rattle.curp_law_linear.proofs.Parts.{adopted_or_none, entry_part, part_entry, part_log}
 use Rattle.curp_law_runs.specs.Along.{HoldsOn}
 use Rattle.curp_facts.specs.Predecessors.{Predecessors}
-use Rattle.curp_law_runs.proofs.Along.{entry_along}
-use Rattle.curp_law_runs.proofs.Logs.{log_ok}
+use Rattle.curp_law_runs.proofs.Gives.{entry_along, log_ok}
 use Rattle.curp_facts.specs.Migrated.{AllStored, Migrated, TakeStored}
 use Rattle.curp_facts.specs.Routes.{InWork, Routes, order_of}
 use Rattle.curp_law_linear.proofs.Found.{none_any}

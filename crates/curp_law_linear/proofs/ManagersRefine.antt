@@ -12,7 +12,7 @@ use Rattle.curp_model.specs.World.{World}
 use Rattle.curp_law_kept.specs.Deeds.{IsFor}
 use Rattle.curp_law_kept.specs.ManagerEffect.{ManagerEffect}
 use Rattle.curp_facts.specs.Known.{Known}
-use Rattle.curp_law_kept.proofs.ManagersDo.{manager_does}
+use Rattle.curp_law_kept.proofs.Gives.{manager_does, Later, manager_moved, one_state}
 use Rattle.curp_law_linear.specs.Moves.{Adopts, LineMove}
 use Rattle.curp_law_linear.specs.Ordered.{Ordered}
 use Rattle.curp_law_linear.specs.Refined.{NoAdoption, Refines, EarlyAfter}
@@ -25,8 +25,6 @@ use Rattle.curp_law_linear.proofs.Parts.{line_logs}
 use Rattle.curp_law_linear.proofs.ReadsAdoption.{WaitsFor}
 use Rattle.curp_law_linear.proofs.ReadsManager.{AdoptsThat}
 use Rattle.curp_facts.specs.Names.{Names}
-use Rattle.curp_law_kept.proofs.Later.{Later}
-use Rattle.curp_law_kept.proofs.ManagerWorlds.{manager_moved}
 use Rattle.curp_facts.specs.Predecessors.{Predecessors}
 use Rattle.curp_facts.specs.Migrated.{Migrated}
 use Rattle.curp_facts.specs.Routes.{Routes}
@@ -34,7 +32,6 @@ use Rattle.curp_law_linear.specs.Line.{CutEarly, LineState}
 use Rattle.curp_law_linear.specs.OfWorld.{line_of}
 use Rattle.curp_model.specs.Marks.{adoptions}
 use Rattle.curp_law_linear.proofs.QuickBegins.{cut_early_begins}
-use Rattle.curp_law_kept.proofs.Words.{one_state}
 
 -- the moves adopt what the manager adopts, if it does, and as much of its log as was recovered
 abbrev pub AdoptsOnly : World → Option Attempted → List LineMove → Type 0

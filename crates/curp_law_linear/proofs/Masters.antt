@@ -25,7 +25,7 @@ use Rattle.curp_facts.specs.Kept.{AdoptedLog, lists_of_master}
 use Rattle.curp_facts.specs.Nodes.{CapturedOk, ServingOk}
 use Rattle.curp_facts.specs.Known.{Known}
 use Rattle.curp_facts.specs.Names.{IsOf}
-use Rattle.curp_law_kept.proofs.MastersMoves.{MasterStep}
+use Rattle.curp_law_kept.proofs.Gives.{MasterStep}
 use Rattle.curp_law_linear.specs.Hashes.{Part}
 use Rattle.curp_law_linear.specs.Line.{Left, LineState}
 use Rattle.curp_law_linear.specs.Moves.{Strays, longer_left, relogged}

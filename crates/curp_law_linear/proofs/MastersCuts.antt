@@ -12,9 +12,7 @@ use Rattle.curp_model.specs.World.{World, is_adopted, master_marks}
 use Rattle.curp_facts.specs.Facts.{IsAdoptedNow}
 use Rattle.curp_facts.specs.Known.{Known}
 use Rattle.curp_facts.specs.Predecessors.{Predecessors}
-use Rattle.curp_law_kept.proofs.MastersMoves.{MasterStep}
-use Rattle.curp_law_kept.proofs.MastersReady.{step_follows}
-use Rattle.curp_law_kept.proofs.Moved.{adopted_back, sent_back}
+use Rattle.curp_law_kept.proofs.Gives.{MasterStep, step_follows, adopted_back, sent_back}
 use Rattle.curp_law_linear.specs.Ordered.{CutsFollow}
 use Rattle.curp_law_linear.proofs.CutMarks.{cuts_marked}
 use Rattle.curp_law_linear.proofs.Cuts.{cuts_stay}

@@ -31,7 +31,7 @@ use Rattle.curp_facts.specs.Facts.{IsAmong, WasSent, WasTaken, hi_of, lo_of}
 use Rattle.curp_facts.specs.Kept.{AdoptedLog}
 use Rattle.curp_cmd.specs.Store.{NamesKey}
 use Rattle.curp_facts.specs.Known.{Known}
-use Rattle.curp_law_kept.proofs.Known.{said}
+use Rattle.curp_law_kept.proofs.Gives.{said, log_back, package_same, package_self, take_package, owns_touched}
 use Rattle.curp_law_linear.specs.Hashes.{Part, is_give, is_take}
 use Rattle.curp_law_linear.specs.Line.{Ungiven}
 use Rattle.curp_law_linear.specs.Moves.{IsOnItsWay, PushExpire, PushExpireFits, PushGive, PushGiveFits, PushOp, PushOpFits, PushTake, PushTakeFits, taken_by}
@@ -42,9 +42,6 @@ use Rattle.curp_law_linear.proofs.MastersLog.{here_at, line_at, part_at, part_ca
 use Rattle.curp_law_linear.proofs.MastersRise.{Brought, adopted_ok, brought, new_rise, new_take, standing, take_of_work, ungiven, untaken}
 use Rattle.curp_law_linear.proofs.Parts.{entry_part, part_log}
 use Rattle.curp_law_linear.proofs.TakenRanges.{covered_before, quiet_behind}
-use Rattle.curp_law_kept.proofs.Logs.{log_back}
-use Rattle.curp_law_kept.proofs.Packages.{package_same, package_self, take_package}
-use Rattle.curp_law_kept.proofs.Ranges.{owns_touched}
 use Rattle.curp_facts.specs.Predecessors.{Predecessors}
 use Rattle.curp_facts.specs.Migrated.{Migrated, TakeStored}
 use Rattle.curp_facts.specs.Routes.{Routes}

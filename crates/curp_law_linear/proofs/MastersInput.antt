@@ -16,7 +16,7 @@ use Rattle.curp_law_linear.proofs.MastersGlance.{AnswersAtOnce, ServingMoves, Sl
 use Rattle.curp_cmd.specs.declared.command.Request.{Request}
 use Rattle.curp_msg.specs.declared.machine.Local.{Local}
 use Rattle.curp_facts.specs.Known.{Known}
-use Rattle.curp_law_kept.proofs.MastersMoves.{speaker, heard_in}
+use Rattle.curp_law_kept.proofs.Gives.{speaker, heard_in}
 use Rattle.curp_base.specs.Words.{Each}
 use Rattle.curp_facts.specs.Nodes.{CapturedOk}
 use Rattle.curp_cmd.specs.declared.entry.Entry.{Entry}

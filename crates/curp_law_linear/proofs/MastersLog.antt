@@ -23,10 +23,9 @@ use Rattle.curp_law_linear.specs.Ordered.{MigrationsRise, Ordered}
 use Rattle.curp_law_linear.proofs.Parts.{entry_part, gives_move, part_entry, plain, rise_alone, takes_move}
 use Rattle.curp_law_kept.specs.GivesFit.{GivesFit}
 use Rattle.curp_law_kept.specs.Migrations.{give_number, take_number}
-use Rattle.curp_law_kept.proofs.GivesFit.{gives_fit_prefix}
-use Rattle.curp_law_kept.proofs.Logs.{log_prefix}
+use Rattle.curp_law_kept.proofs.Gives.{gives_fit_prefix, log_prefix}
 use Rattle.curp_facts.specs.Predecessors.{Predecessors}
-use Rattle.curp_law_runs.proofs.Logs.{range_ordered}
+use Rattle.curp_law_runs.proofs.Gives.{range_ordered}
 use Rattle.curp_facts.specs.Migrated.{Migrated}
 use Rattle.curp_facts.specs.Routes.{Routes}
 use Rattle.curp_law_linear.proofs.MastersRise.{new_fit, new_rise}

@@ -15,7 +15,7 @@ use Rattle.curp_model.specs.World.{World}
 use Rattle.curp_facts.specs.Facts.{IsAdoptedNow, Logged, hi_of, lists_of_part, lo_of, node_log}
 use Rattle.curp_facts.specs.Kept.{AdoptedLog}
 use Rattle.curp_facts.specs.Known.{Known}
-use Rattle.curp_law_kept.proofs.MastersMoves.{MasterStep}
+use Rattle.curp_law_kept.proofs.Gives.{MasterStep}
 use Rattle.curp_law_linear.proofs.Lists.{some_same}
 use Rattle.curp_law_linear.specs.Ordered.{AdoptedLogOk, MigrationsRise, Ordered}
 use Rattle.curp_law_linear.proofs.Masters.{serving_fit, serving_rise}

@@ -24,7 +24,7 @@ use Rattle.curp_law_linear.specs.Moves.{Look, LookFits, Looks}
 use Rattle.curp_law_linear.specs.Ordered.{Ordered}
 use Rattle.curp_law_linear.proofs.MastersCaptures.{Captures, NoRead, OneRead, TakesNone, TakesOne}
 use Rattle.curp_law_linear.proofs.MastersLog.{Leads, here_at, leads_first, leads_none, line_at, logs_at, part_at}
-use Rattle.curp_law_kept.proofs.Ranges.{owns_touched}
+use Rattle.curp_law_kept.proofs.Gives.{owns_touched}
 use Rattle.curp_facts.specs.Predecessors.{Predecessors}
 use Rattle.curp_facts.specs.Migrated.{Migrated}
 use Rattle.curp_facts.specs.Routes.{Routes}

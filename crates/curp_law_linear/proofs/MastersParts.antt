@@ -15,13 +15,12 @@ use Rattle.curp_model.specs.Recovery.{MasterStage}
 use Rattle.curp_model.specs.World.{World, is_adopted}
 use Rattle.curp_facts.specs.Facts.{IsAdoptedNow, lists_of_part, node_log}
 use Rattle.curp_facts.specs.Known.{Known}
-use Rattle.curp_law_kept.proofs.MastersMoves.{MasterStep}
+use Rattle.curp_law_kept.proofs.Gives.{MasterStep, master_there}
 use Rattle.curp_law_linear.specs.Hashes.{Part}
 use Rattle.curp_law_linear.specs.Moves.{relogged}
 use Rattle.curp_law_linear.specs.OfWorld.{entries_at, line_of, logged_entries, part_of}
 use Rattle.curp_base.proofs.Numbered.{any_at}
 use Rattle.curp_facts.specs.Names.{IsOf}
-use Rattle.curp_law_kept.proofs.Homes.{master_there}
 use Rattle.curp_base.proofs.Lists.{at_any}
 
 map_same : {A B : Type 0} (f g : A → B) (xs : List A) → ((k : ℕ) (x : A) → At xs k x → f x ≡ g x) → map f xs ≡ map g xs

@@ -24,7 +24,7 @@ use Rattle.curp_facts.specs.Kept.{AdoptedLog}
 use Rattle.curp_facts.specs.Reach.{Reach}
 use Rattle.curp_facts.specs.Said.{StoredEntry}
 use Rattle.curp_facts.specs.Known.{Known}
-use Rattle.curp_law_kept.proofs.Known.{said}
+use Rattle.curp_law_kept.proofs.Gives.{said, gives_fit_append, gives_fit_from, package_ascends, package_within, owned_more, take_package}
 use Rattle.curp_law_linear.specs.Hashes.{Part, has_take, is_give, is_take, owns}
 use Rattle.curp_law_linear.specs.OfWorld.{line_of, moving_of, part_of}
 use Rattle.curp_law_linear.proofs.Lists.{some_same}
@@ -33,14 +33,9 @@ use Rattle.curp_law_linear.proofs.Clients.{entry_of}
 use Rattle.curp_law_linear.proofs.Parts.{adopted_or_none, entry_part, part_entry, part_log}
 use Rattle.curp_law_kept.specs.GivesFit.{GiveFits, GivesFit, PairsAscend, PairsWithin}
 use Rattle.curp_law_kept.specs.Migrations.{MovesNothing, give_number, take_number}
-use Rattle.curp_law_kept.proofs.GivesFit.{gives_fit_append, gives_fit_from, package_ascends, package_within}
-use Rattle.curp_law_kept.proofs.Migrations.{owned_more}
-use Rattle.curp_law_kept.proofs.Packages.{take_package}
 use Rattle.curp_law_runs.specs.Along.{HoldsOn}
 use Rattle.curp_facts.specs.Predecessors.{Predecessors}
-use Rattle.curp_law_runs.proofs.Along.{entry_along}
-use Rattle.curp_law_runs.proofs.Logs.{log_ok}
-use Rattle.curp_law_runs.proofs.Words.{one_log}
+use Rattle.curp_law_runs.proofs.Gives.{entry_along, log_ok, one_log}
 use Rattle.curp_facts.specs.Migrated.{Migrated, TakeStored}
 use Rattle.curp_facts.specs.Routes.{IsMigrationDone, IsGiveOf, IsMoving, Routes, order_of}
 use Rattle.curp_law_linear.proofs.Found.{found_give}

@@ -17,11 +17,11 @@ use Rattle.curp_model.specs.World.{World}
 use Rattle.curp_facts.specs.Facts.{ByRecovery, Lists, Logged, ReplayOk, WasAdopted, WasSent, lists_of_order, node_log, phase_log}
 use Rattle.curp_facts.specs.Nodes.{IsWaiting, RecovererOk, StageOk}
 use Rattle.curp_facts.specs.Known.{Known}
-use Rattle.curp_law_kept.proofs.MastersMoves.{StageMove}
+use Rattle.curp_law_kept.proofs.Gives.{StageMove}
 use Rattle.curp_law_linear.specs.OfWorld.{logged_entries}
 use Rattle.curp_facts.specs.Names.{RecoverOrderOk}
 use Rattle.curp_facts.specs.Predecessors.{Predecessor, Predecessors}
-use Rattle.curp_law_runs.proofs.Words.{one_backup, one_witness}
+use Rattle.curp_law_runs.proofs.Gives.{one_backup, one_witness}
 
 -- the log stays, and so does that there is one
 pub record SameLog (m k : MasterStage) : Type 0 where

@@ -17,7 +17,7 @@ use Rattle.curp_model.specs.Master.{MasterState}
 use Rattle.curp_model.specs.Recovery.{Fresh, MasterStage, Recovering, RecoveryState, Serving}
 use Rattle.curp_model.specs.World.{World, messages}
 use Rattle.curp_facts.specs.Facts.{IsAmong, WasSent}
-use Rattle.curp_law_kept.proofs.MastersMoves.{StageMove}
+use Rattle.curp_law_kept.proofs.Gives.{StageMove}
 use Rattle.curp_law_linear.specs.Hashes.{Part, is_take}
 use Rattle.curp_law_linear.specs.Line.{LineState}
 use Rattle.curp_law_linear.specs.Moves.{Told}

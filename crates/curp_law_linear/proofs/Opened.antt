@@ -16,7 +16,7 @@ use Rattle.curp_law_linear.proofs.Openings.{opening_line}
 use Rattle.curp_law_linear.proofs.OpenedCuts.{cuts_follow_opening}
 use Rattle.curp_law_linear.specs.Ordered.{AdoptedLogOk, CaptureOk, MigrationsRise, Ordered}
 use Rattle.curp_law_kept.specs.GivesFit.{GivesFit}
-use Rattle.curp_law_runs.proofs.Steps.{nothing_sent}
+use Rattle.curp_law_runs.proofs.Gives.{nothing_sent}
 use Rattle.curp_base.proofs.Lists.{at_mapped}
 use Rattle.curp_base.proofs.Numbered.{place}
 

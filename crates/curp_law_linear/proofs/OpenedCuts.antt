@@ -12,7 +12,7 @@ use Rattle.curp_model.specs.World.{opening, shape_of}
 use Rattle.curp_facts.specs.Facts.{AtOpening, ByRecovery, ByReplacement, IsGiven, Lists, lists_of_part}
 use Rattle.curp_law_linear.specs.OfWorld.{Reign, reigns}
 use Rattle.curp_law_linear.specs.Ordered.{CutsFollow, PartCuts, ReignOk, reign_in}
-use Rattle.curp_law_runs.proofs.Steps.{nothing_sent}
+use Rattle.curp_law_runs.proofs.Gives.{nothing_sent}
 
 module _ (h : Header) where
   -- the master of the opening

@@ -32,7 +32,7 @@ use Rattle.curp_law_linear.proofs.Lists.{in_cases, in_filter, in_none}
 use Rattle.curp_law_linear.proofs.OwnedValues.{at_own, no_take, owned_answer}
 use Rattle.curp_law_linear.proofs.Pushes.{answered_grows}
 use Rattle.curp_law_linear.proofs.Pushes as pushes
-use Rattle.curp_law_kept.proofs.Values.{on_append}
+use Rattle.curp_law_kept.proofs.Gives.{on_append}
 
 -- one id is invoked with one command
 pub one_command : (h : List Event) → IsHistory h → (id other : RequestId) (c d : Command) → id ≡ other → WasInvoked h id c → WasInvoked h other d → c ≡ d

@@ -18,7 +18,7 @@ use Rattle.curp_law_linear.specs.Line.{AnsweredInOrder}
 use Rattle.curp_law_linear.proofs.Given.{Pure}
 use Rattle.curp_law_linear.proofs.Hashes.{key_touches}
 use Rattle.curp_law_linear.proofs.Lists.{Distinct, distinct_filter, empty_list, from_filter, in_cons, in_filter, in_head, in_none, in_right, in_tail, only_one, some_or_none}
-use Rattle.curp_law_kept.proofs.Values.{on_append}
+use Rattle.curp_law_kept.proofs.Gives.{on_append}
 
 -- the ops of entries, as requests of the order
 abbrev pub asked_of : List Entry → List Asked

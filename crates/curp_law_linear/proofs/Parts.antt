@@ -17,7 +17,7 @@ use Rattle.curp_law_linear.proofs.Discharged.{IsPlainLog, logs_ok}
 use Rattle.curp_law_linear.proofs.Given.{LogsOk}
 use Rattle.curp_law_linear.specs.Ordered.{MigrationsRise, Ordered, moved_number}
 use Rattle.curp_law_kept.specs.Migrations.{NumbersAscend, give_number, take_number}
-use Rattle.curp_law_runs.proofs.Logs.{log_ok, range_ordered}
+use Rattle.curp_law_runs.proofs.Gives.{log_ok, range_ordered}
 
 -- what stands among what a function makes of numbered items
 pub numbered_map : {A B : Type 0} (f : A → B) (xs : List A) (n : ℕ) (y : B) → numbered (map f xs) n ≡ Some y → (x : A) × (numbered xs n ≡ Some x) × (y ≡ f x)

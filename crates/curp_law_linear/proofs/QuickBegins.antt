@@ -18,7 +18,7 @@ use Rattle.curp_order.specs.Order.{store_after}
 use Rattle.curp_msg.specs.declared.machine.Capture.{Capture}
 use Rattle.curp_model.specs.Log.{answer_after, entry_touches}
 use Rattle.curp_law_kept.specs.GivesFit.{GivesWithin}
-use Rattle.curp_law_kept.proofs.Untouched.{answer_untouched}
+use Rattle.curp_law_kept.proofs.Gives.{answer_untouched}
 use Rattle.curp_model.specs.Marks.{Cut, Executed, Looked, Mark, Place, Quick, adoptions, cuts_at, cuts_part, is_capture, is_cut, is_number, is_update_mark, put_at, quick, shown}
 use Rattle.curp_law_linear.specs.Hashes.{Part, owns, state_of}
 use Rattle.curp_law_linear.specs.Line.{CutAt, CutEarly, IsCompleted, IsFirm, Left, LineState, LineOk, QuickEarly, QuickGives, QuickLow}

@@ -11,7 +11,7 @@ use Rattle.curp_law_linear.proofs.QuickLaws.{quick_stays, low_stays}
 use Rattle.curp_law_linear.proofs.QuickRuns.{early_on}
 use Rattle.curp_model.specs.World.{World}
 use Rattle.curp_law_linear.specs.Ordered.{Ordered, IsLow, QuickOk, capture_of}
-use Rattle.curp_law_kept.proofs.Words.{Follows, adopted_stays, witness_later}
+use Rattle.curp_law_kept.proofs.Gives.{Follows, adopted_stays, witness_later}
 use Rattle.curp_law_linear.specs.Refined.{Refines}
 use Rattle.curp_model.specs.Marks.{Mark}
 use Rattle.curp_law_linear.specs.OfWorld.{line_of}

@@ -9,7 +9,7 @@ use Rattle.curp_cmd.specs.declared.node.NodeId.{NodeId}
 use Rattle.curp_msg.specs.declared.body.Body.{Body}
 use Rattle.curp_model.specs.Master.{MasterState, Acknowledged, from_backup}
 use Rattle.curp_msg.specs.declared.message.Message.{Message}
-use Rattle.curp_law_kept.proofs.MastersMoves.{MasterStep}
+use Rattle.curp_law_kept.proofs.Gives.{MasterStep, Follows, one_state, adopted_stays, step_follows, sent_cases}
 use Rattle.curp_model.specs.Recovery.{Serving}
 use Rattle.curp_law_linear.proofs.MastersGlance.{AnswersAtOnce}
 use Rattle.curp_model.specs.Marks.{with_quick, Mark, cuts_part, is_capture, Looked, Quick}
@@ -18,11 +18,8 @@ use Rattle.curp_cmd.specs.Node.{master_node, client_node}
 use Rattle.curp_msg.specs.declared.body.Quick.{Quick as QuickValue}
 use Rattle.curp_facts.specs.Kept.{lists_of_master}
 use Rattle.curp_law_linear.specs.Refined.{Refines, RefinesQuiet}
-use Rattle.curp_law_kept.proofs.Words.{Follows, one_state, adopted_stays}
-use Rattle.curp_law_kept.proofs.MastersReady.{step_follows}
 use Rattle.curp_facts.specs.Nodes.{ServingOk}
 use Rattle.curp_law_linear.proofs.ReadsPassed.{capture_later}
-use Rattle.curp_law_kept.proofs.ManagerWorlds.{sent_cases}
 use Rattle.curp_facts.specs.Facts.{WasSent}
 use Rattle.curp_law_linear.proofs.ReadsLater.{ReadWas, ReadsOk, made_later, completed_later, older_later, quick_reached}
 use Rattle.curp_base.specs.Words.{numbered, At, Each}

@@ -12,14 +12,12 @@ use Rattle.curp_law_linear.specs.Ordered.{capture_of, Gated, StoredFrom, IsStore
 use Rattle.curp_law_linear.specs.OfWorld.{line_of, cuts, reigns, reign_of, Reign, cut_length, left_of, left_at, log_of, entries_at, moving_of, part_of, told_by}
 use Rattle.curp_facts.specs.Known.{Known}
 use Rattle.curp_facts.specs.Predecessors.{Predecessors}
-use Rattle.curp_law_kept.proofs.MastersMoves.{MasterStep}
+use Rattle.curp_law_kept.proofs.Gives.{MasterStep, Follows, witness_later, step_follows, synced_within, synced_many, each_touched, owns_touched, clean_apart, among_each, said}
 use Rattle.curp_law_linear.proofs.MastersGlance.{AnswersAtOnce}
 use Rattle.curp_msg.specs.declared.body.Quick.{Quick as QuickValue}
 use Rattle.curp_msg.specs.declared.machine.Capture.{Capture}
 use Rattle.curp_facts.specs.Nodes.{ServingOk}
 use Rattle.curp_model.specs.Recovery.{Serving}
-use Rattle.curp_law_kept.proofs.Words.{Follows, witness_later}
-use Rattle.curp_law_kept.proofs.MastersReady.{step_follows}
 use Rattle.curp_facts.specs.Said.{ReadSaid}
 use Rattle.curp_law_kept.specs.Moves.{QuickSays, IsSaidBy, ServingSays}
 use Rattle.curp_model.specs.Master.{Open, synced, state_of, MasterState}
@@ -35,14 +33,10 @@ use Rattle.curp_law_linear.proofs.Same.{flat_append}
 use Rattle.curp_law_linear.proofs.Left.{left_stays, left_is, Superseded}
 use Rattle.curp_law_linear.proofs.Cuts.{superseded_reign, CutAdopted, cut_adoption, last_reign}
 use Rattle.curp_facts.specs.Names.{IsOf}
-use Rattle.curp_law_kept.proofs.MastersSay.{synced_within}
-use Rattle.curp_law_kept.proofs.Synced.{synced_many}
 use Rattle.curp_law_linear.proofs.ReadsReady.{open_last}
 use Rattle.curp_facts.specs.Reach.{HasMany}
 use Rattle.curp_law_linear.proofs.Found.{none_any}
 use Rattle.curp_base.proofs.Lists.{at_drop, at_map, at_same, at_some, at_within}
-use Rattle.curp_law_kept.proofs.Ranges.{each_touched, owns_touched}
-use Rattle.curp_law_kept.proofs.Clean.{clean_apart}
 use Rattle.curp_cmd.specs.Hash.{touches}
 use Rattle.std.specs.List.{list_any}
 use Rattle.curp_msg.specs.declared.config.PartConfig.{PartConfig}
@@ -55,11 +49,9 @@ use Rattle.curp_law_linear.proofs.Lates.{late_low}
 use Rattle.curp_law_linear.proofs.Discharged.{pure, second}
 use Rattle.curp_law_linear.proofs.ReadsStored.{from_stays}
 use Rattle.std.proofs.lemmas.Bool.{cases_lt}
-use Rattle.curp_law_runs.proofs.Logs.{gives_within}
-use Rattle.curp_law_runs.proofs.Lists.{ready}
+use Rattle.curp_law_runs.proofs.Gives.{gives_within, ready}
 use Rattle.curp_msg.specs.Moved.{says}
 use Rattle.curp_cmd.specs.Node.{manager_node, client_node, master_node}
-use Rattle.curp_law_kept.proofs.NumberedLists.{among_each}
 use Rattle.curp_model.specs.Named.{IsBackup}
 use Rattle.curp_law_linear.specs.Hashes.{Part, owns}
 use Rattle.curp_law_kept.specs.GivesFit.{GivesWithin}
@@ -81,7 +73,6 @@ use Rattle.curp_base.specs.Words.{numbered, At, Each}
 use Rattle.curp_msg.specs.declared.body.Body.TheVariants as body
 use Rattle.curp_cmd.specs.declared.node.NodeKind.TheVariants as kind
 use Rattle.std.specs.FinMap as store
-use Rattle.curp_law_kept.proofs.Known.{said}
 use Rattle.curp_cmd.proofs.Nodes.{either_node}
 
 -- what an answer at once does with the marks and the machine, and what is known of the read then

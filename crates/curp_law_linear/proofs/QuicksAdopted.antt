@@ -31,7 +31,7 @@ use Rattle.curp_law_linear.proofs.QuicksKept.{quick_cut, quick_more}
 use Rattle.curp_law_linear.proofs.Spans.{owned_after, takes}
 use Rattle.curp_law_linear.proofs.ToldTakes.{told_behind}
 use Rattle.curp_law_linear.proofs.Values.{filter_back}
-use Rattle.curp_law_kept.proofs.Behind.{behind_from_append, came_from_append, came_kept}
+use Rattle.curp_law_kept.proofs.Gives.{behind_from_append, came_from_append, came_kept}
 
 -- ---- what stays
 

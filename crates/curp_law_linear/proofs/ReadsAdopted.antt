@@ -35,7 +35,7 @@ use Rattle.curp_law_linear.proofs.Keeps.{look_reads}
 use Rattle.curp_law_linear.specs.Ordered.{Ordered}
 use Rattle.curp_law_linear.proofs.Parts.{entry_part, line_logs, part_log}
 use Rattle.curp_law_linear.proofs.ReadsCaptures.{CapturesRead}
-use Rattle.curp_law_kept.proofs.Ranges.{owns_touched}
+use Rattle.curp_law_kept.proofs.Gives.{owns_touched}
 use Rattle.curp_base.proofs.Numbered.{at_place}
 
 -- a master that some entry names

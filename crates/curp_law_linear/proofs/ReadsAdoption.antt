@@ -26,8 +26,7 @@ use Rattle.curp_law_kept.specs.Deeds.{IsFor}
 use Rattle.curp_base.proofs.Numbered.{numbered_set_cases, numbered_set_same, place}
 use Rattle.curp_law_kept.specs.ManagerEffect.{ManagerEffect, Uttered}
 use Rattle.curp_facts.specs.Known.{Known}
-use Rattle.curp_law_kept.proofs.Known.{said}
-use Rattle.curp_law_kept.proofs.ManagersDo.{manager_does}
+use Rattle.curp_law_kept.proofs.Gives.{said, manager_does, manager_moved, moved_messages, Follows}
 use Rattle.curp_law_linear.specs.Ordered.{Ordered, StoredFrom, CutsFollow, CutsTimed}
 use Rattle.curp_law_linear.specs.Refined.{Refines, EarlyAfter}
 use Rattle.curp_law_linear.proofs.ReadsFinished.{Finished, attempt_finished}
@@ -36,13 +35,11 @@ use Rattle.curp_law_linear.proofs.ReadsManager.{AdoptsRecovery, AdoptsThat, Mana
 use Rattle.curp_law_linear.proofs.ReadsManagerLists.{manager_said, new_entry}
 use Rattle.curp_law_linear.proofs.ReadsManagerSteps.{was_heard}
 use Rattle.curp_facts.specs.Names.{RecoveringOk}
-use Rattle.curp_law_kept.proofs.ManagerWorlds.{manager_moved, moved_messages}
 use Rattle.curp_facts.specs.Predecessors.{Predecessors}
-use Rattle.curp_law_runs.proofs.Uttered.{manager_adopts}
+use Rattle.curp_law_runs.proofs.Gives.{manager_adopts}
 use Rattle.curp_law_linear.proofs.CutsAdopt.{cuts_follow_adopted, cuts_cases}
 use Rattle.curp_law_linear.specs.OfWorld.{log_of}
 use Rattle.curp_law_linear.proofs.CutsTimes.{timed_more}
-use Rattle.curp_law_kept.proofs.Words.{Follows}
 
 -- a master that waits to be adopted, with what it has replayed
 pub record WaitsFor (w : World) (node : NodeId) : Type 0 where

@@ -51,7 +51,7 @@ use Rattle.curp_model.specs.declared.Check.TheVariants.{Expired, Known, New, Sta
 use Rattle.curp_facts.specs.Facts.{IsAmong}
 use Rattle.curp_law_linear.proofs.MastersCaptures.{NotGlance}
 use Rattle.curp_cmd.specs.declared.command.RequestId.{RequestId}
-use Rattle.curp_law_kept.proofs.NumberedLists.{each_among, filter_among}
+use Rattle.curp_law_kept.proofs.Gives.{each_among, filter_among}
 
 -- ---- what an input does
 

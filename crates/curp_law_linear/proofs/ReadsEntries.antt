@@ -18,7 +18,7 @@ use Rattle.curp_model.specs.Manager as manager
 use Rattle.curp_model.specs.Manager.{Attempted, Doing, ManagerState, Migration, NewLists, Recovering, Replacing, Steady, adopted_at, adoption, adopts, client_for, counter_ends, expires, finished, given_in, gives, heard, last_number, lists_in_work, manager_input, migrates, move_for, moved_part, nudge, part_at, prepared_in, recovered_in, recovery_for, recovers, replacement_for, replaces, taken_in, tells_again, told, unless_numbers_end, version_adopted, version_in_work}
 use Rattle.curp_base.proofs.Numbered.{numbered_set_cases, at_place}
 use Rattle.curp_law_linear.proofs.Parts.{numbered_map}
-use Rattle.curp_law_kept.proofs.NumberedLists.{there_among}
+use Rattle.curp_law_kept.proofs.Gives.{there_among}
 use Rattle.curp_base.proofs.Lists.{at_mapped}
 
 -- an entry has the partition, the epoch and the master of the one that stood at that number

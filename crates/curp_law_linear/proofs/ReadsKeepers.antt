@@ -19,26 +19,20 @@ use Rattle.curp_model.specs.World.{World}
 use Rattle.curp_facts.specs.Growth.{BackupGrows, WitnessGrows, Dropped, Grows}
 use Rattle.curp_law_kept.specs.BackupEffect.{AppendAnswerSays, AppendedSays, BackupSays}
 use Rattle.curp_law_kept.specs.WitnessEffect.{WitnessSays, ProbedSays}
-use Rattle.curp_law_kept.proofs.BackupEffects.{backup_effect}
-use Rattle.curp_law_kept.proofs.WitnessEffects.{witness_effect}
-use Rattle.curp_law_kept.proofs.KeeperSteps.{KeeperMoved}
+use Rattle.curp_law_kept.proofs.Gives.{backup_effect, witness_effect, KeeperMoved, sent_cases, SaysMore, nothing_ready, among_each, Follows, one_state}
 use Rattle.curp_facts.specs.Known.{Known}
-use Rattle.curp_law_kept.proofs.ManagerWorlds.{sent_cases}
-use Rattle.curp_law_kept.proofs.Others.{SaysMore, nothing_ready}
 use Rattle.curp_law_linear.specs.Ordered.{Ordered}
 use Rattle.curp_law_linear.specs.Refined.{Refines}
 use Rattle.curp_law_linear.proofs.ReadsLater.{ReadsOk}
 use Rattle.curp_law_linear.specs.Refined.{NoAdoption}
 use Rattle.curp_law_linear.proofs.ReadsPassed.{NoneLate, NoneLives}
 use Rattle.curp_law_linear.proofs.ReadsQuiet.{frame_reads, looks_same, none_late, none_lives}
-use Rattle.curp_law_kept.proofs.NumberedLists.{among_each}
 use Rattle.curp_facts.specs.Predecessors.{Predecessors}
 use Rattle.curp_law_linear.specs.OfWorld.{cuts}
 use Rattle.curp_model.specs.declared.Mode.TheVariants as mode
 use Rattle.curp_model.specs.declared.Mode.{Mode}
 use Rattle.curp_facts.specs.Facts.{IsAmong}
 use Rattle.curp_msg.specs.declared.body.Probed.{Probed}
-use Rattle.curp_law_kept.proofs.Words.{Follows, one_state}
 
 -- a witness that is frozen stays so, and says no Live
 pub frozen_silent : {w v : World} → (n : ℕ) (x : WitnessState) (given : Input) → numbered v.witnesses n ≡ Some (witness_input n x given).state → Grows w v

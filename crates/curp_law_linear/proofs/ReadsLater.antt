@@ -29,7 +29,7 @@ use Rattle.curp_law_linear.specs.Line.{QuickLow}
 use Rattle.curp_law_linear.proofs.QuickLater.{low_later, quick_later}
 use Rattle.curp_msg.specs.declared.body.Quick.{Quick as QuickValue}
 use Rattle.std.proofs.lemmas.Bool.{eq-eqb}
-use Rattle.curp_law_kept.proofs.Words.{Follows, serving_later}
+use Rattle.curp_law_kept.proofs.Gives.{Follows, serving_later}
 
 -- what is kept of reads
 pub record ReadsOk (w : World) : Type 0 where

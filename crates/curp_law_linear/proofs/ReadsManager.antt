@@ -29,9 +29,7 @@ use Rattle.curp_facts.specs.Nodes as nodes
 use Rattle.curp_facts.specs.Nodes.{StageOk}
 use Rattle.curp_facts.specs.Reach.{HasMany, HasStored, Reach}
 use Rattle.curp_facts.specs.Known.{Known}
-use Rattle.curp_law_kept.proofs.Known.{fits}
-use Rattle.curp_law_kept.proofs.MastersReady.{all_stored, stored_many}
-use Rattle.curp_law_kept.proofs.Moved.{sent_back}
+use Rattle.curp_law_kept.proofs.Gives.{fits, all_stored, stored_many, sent_back, replay_prefix, Follows, one_state, sent_later}
 use Rattle.curp_law_linear.specs.Moves.{Adopts, LineMove, IsDropped}
 use Rattle.curp_law_linear.specs.Ordered.{CaptureOk, CutsFollow, IsStored, Ordered, StoredFrom, CutsTimed}
 use Rattle.curp_law_linear.specs.Refined.{Refines}
@@ -42,16 +40,14 @@ use Rattle.curp_law_linear.proofs.ReadsMoves.{NoneDrops, none_drops}
 use Rattle.curp_law_linear.proofs.ReadsPassed.{NewerLists, NoneLate, passed_later, NoneLives}
 use Rattle.curp_law_linear.proofs.ReadsQuiet.{looks_same}
 use Rattle.curp_law_linear.proofs.ReadsStored.{stored_stays}
-use Rattle.curp_law_kept.proofs.Replayed.{replay_prefix}
 use Rattle.curp_facts.specs.Names.{IsOf, RecoveringOk}
 use Rattle.curp_facts.specs.Predecessors.{Predecessors}
-use Rattle.curp_law_runs.proofs.Lists.{order_first}
+use Rattle.curp_law_runs.proofs.Gives.{order_first}
 use Rattle.curp_facts.specs.Migrated.{AllStored}
 use Rattle.curp_law_linear.proofs.Cuts.{cuts_stay}
 use Rattle.curp_law_linear.specs.OfWorld.{cuts, entries_at, log_of, logged_entries}
 use Rattle.curp_law_linear.proofs.CutsTimes.{timed_stay}
 use Rattle.curp_msg.specs.declared.body.Quick.{Quick as QuickValue}
-use Rattle.curp_law_kept.proofs.Words.{Follows, one_state, sent_later}
 
 -- the manager has said more, and no other node has moved; new nodes are fresh
 pub record ManagerSaid (w v : World) (out : List Message) : Type 0 where

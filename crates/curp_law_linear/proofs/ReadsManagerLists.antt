@@ -18,11 +18,9 @@ use Rattle.curp_facts.specs.Known.{Known}
 use Rattle.curp_law_linear.proofs.ReadsManager.{ManagerSaid}
 use Rattle.curp_law_linear.proofs.ReadsPassed.{NewerLists}
 use Rattle.curp_facts.specs.Names.{AdoptedOk}
-use Rattle.curp_law_kept.proofs.Later.{Later, given_later}
-use Rattle.curp_law_kept.proofs.ManagerWorlds.{manager_moved, moved_messages, sent_cases}
+use Rattle.curp_law_kept.proofs.Gives.{Later, given_later, manager_moved, moved_messages, sent_cases}
 use Rattle.curp_law_runs.specs.Adopting.{Comes, FromRecovery, FromReplacement}
-use Rattle.curp_law_runs.proofs.Adopted.{adopted_back, adopted_word}
-use Rattle.curp_law_runs.proofs.Uttered.{AdoptsOne, IsOld, NoNew, OneNew}
+use Rattle.curp_law_runs.proofs.Gives.{adopted_back, adopted_word, AdoptsOne, IsOld, NoNew, OneNew}
 use Rattle.curp_base.proofs.Numbered.{place, at_place}
 
 -- ---- nodes

@@ -17,7 +17,7 @@ use Rattle.curp_facts.specs.Facts.{IsAdoptedNow, WasSent}
 use Rattle.curp_law_kept.specs.ManagerEffect.{ManagerEffect, Uttered}
 use Rattle.curp_law_kept.specs.Deeds.{IsFor}
 use Rattle.curp_facts.specs.Known.{Known}
-use Rattle.curp_law_kept.proofs.ManagersDo.{manager_does}
+use Rattle.curp_law_kept.proofs.Gives.{manager_does, manager_moved, moved_messages, Follows}
 use Rattle.curp_law_linear.specs.Ordered.{Ordered}
 use Rattle.curp_law_linear.specs.Refined.{Refines}
 use Rattle.curp_law_linear.proofs.ReadsEntries.{entries_keep}
@@ -25,10 +25,8 @@ use Rattle.curp_law_linear.proofs.ReadsLater.{EntryStays, ReadsOk}
 use Rattle.curp_law_linear.proofs.ReadsManager.{manager_reads}
 use Rattle.curp_law_linear.proofs.ReadsManagerLists.{manager_said, newer_lists}
 use Rattle.curp_law_linear.specs.Refined.{NoAdoption}
-use Rattle.curp_law_kept.proofs.ManagerWorlds.{manager_moved, moved_messages}
 use Rattle.curp_facts.specs.Predecessors.{Predecessors}
-use Rattle.curp_law_runs.proofs.Uttered.{WasHeard, manager_adopts}
-use Rattle.curp_law_kept.proofs.Words.{Follows}
+use Rattle.curp_law_runs.proofs.Gives.{WasHeard, manager_adopts}
 
 -- where nothing completes and no recovery is adopted, the marks stay
 marks_stay : (w : World) (done : Option Completed) (adopted : Option Attempted) → done ≡ None → adopted ≡ None → with_completion done (with_adoption w.masters adopted w.marks) ≡ w.marks

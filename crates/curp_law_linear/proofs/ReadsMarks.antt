@@ -13,7 +13,7 @@ use Rattle.curp_model.specs.World.{World, capture_mark, new_captures, op_marks, 
 use Rattle.curp_facts.specs.Facts.{IsAmong}
 use Rattle.curp_facts.specs.Nodes.{CapturedOk}
 use Rattle.curp_law_linear.proofs.ReadsCaptures.{CapturesMove, CapturesRead, Fewer, OneMore}
-use Rattle.curp_law_kept.proofs.NumberedLists.{among_each}
+use Rattle.curp_law_kept.proofs.Gives.{among_each}
 
 -- the marks of ops are of no look
 pub ops_only : (node : NodeId) (part epoch index : ℕ) (es : List Entry) → Each (λ (m : Mark). is_update_mark m.place ≡ true) (op_marks node part epoch index es)

@@ -14,9 +14,7 @@ use Rattle.curp_model.specs.Recovery.{Fresh, MasterStage, Recovering, Serving}
 use Rattle.curp_model.specs.World.{World, is_adopted, master_marks}
 use Rattle.curp_facts.specs.Facts.{IsAmong}
 use Rattle.curp_facts.specs.Known.{Known}
-use Rattle.curp_law_kept.proofs.MastersMoves.{MasterStep}
-use Rattle.curp_law_kept.proofs.MastersReady.{step_follows}
-use Rattle.curp_law_kept.proofs.ManagerWorlds.{sent_cases}
+use Rattle.curp_law_kept.proofs.Gives.{MasterStep, step_follows, sent_cases, among_each, one_state}
 use Rattle.curp_law_linear.specs.Ordered.{CutsFollow, Ordered, CutsTimed}
 use Rattle.curp_law_linear.specs.Refined.{Refines}
 use Rattle.curp_law_linear.proofs.ReadsCaptures.{ReadsMove}
@@ -27,11 +25,9 @@ use Rattle.curp_law_linear.proofs.ReadsMoves.{none_drops}
 use Rattle.curp_law_linear.proofs.ReadsQuiet.{looks_same}
 use Rattle.curp_law_kept.specs.Moves.{IsSaidBy, RecoverySays}
 use Rattle.curp_law_kept.specs.Stages.{FreshSays}
-use Rattle.curp_law_kept.proofs.NumberedLists.{among_each}
 use Rattle.curp_facts.specs.Predecessors.{Predecessors}
 use Rattle.curp_law_linear.proofs.MastersCuts.{master_lives, master_entries, master_newer, master_late}
 use Rattle.curp_msg.specs.declared.body.Quick.{Quick as QuickValue}
-use Rattle.curp_law_kept.proofs.Words.{one_state}
 use Rattle.curp_cmd.proofs.Nodes.{either_node}
 
 -- ---- a master that doesn't serve yet

@@ -25,12 +25,7 @@ use Rattle.curp_facts.specs.Kept.{NeverSoLate, lists_of_master}
 use Rattle.curp_facts.specs.Nodes.{AcknowledgedOk, CapturedOk, ServingOk}
 use Rattle.curp_facts.specs.Said.{AppendHolds, AppendSaid, AppendedSaid}
 use Rattle.curp_facts.specs.Known.{Known}
-use Rattle.curp_law_kept.proofs.Known.{fits, said}
-use Rattle.curp_law_kept.proofs.MastersHeard.{one_log}
-use Rattle.curp_law_kept.proofs.MastersMoves.{MasterStep}
-use Rattle.curp_law_kept.proofs.MastersReady.{step_follows}
-use Rattle.curp_law_kept.proofs.ManagerWorlds.{sent_cases}
-use Rattle.curp_law_kept.proofs.Moved.{sent_back}
+use Rattle.curp_law_kept.proofs.Gives.{fits, said, one_log, MasterStep, step_follows, sent_cases, sent_back, among_each, Follows, adopted_stays, one_state, serving_later}
 use Rattle.curp_law_linear.specs.Ordered.{CaptureOk, CutsFollow, LooksNumbered, LooksReached, Ordered, WorthOk, CutsTimed, QuickOk}
 use Rattle.curp_law_linear.specs.Refined.{Refines}
 use Rattle.curp_law_linear.proofs.ReadsAdopted.{later_entry, new_look, own_entry}
@@ -43,13 +38,11 @@ use Rattle.curp_law_linear.proofs.ReadsPassed.{KnowsNoLater, NewerLists, NoneLat
 use Rattle.curp_law_linear.proofs.ReadsReady.{passed_new, ready_looks, ready_stored}
 use Rattle.curp_law_linear.proofs.ReadsStored.{looks_stored}
 use Rattle.curp_law_kept.specs.Moves.{IsSaidBy, ServingMove, ServingSays, WorthSays}
-use Rattle.curp_law_kept.proofs.NumberedLists.{among_each}
 use Rattle.curp_facts.specs.Predecessors.{Predecessors}
 use Rattle.curp_law_linear.proofs.QuickLater.{quick_later}
 use Rattle.curp_msg.specs.declared.body.Quick.{Quick as QuickValue}
 use Rattle.curp_law_linear.proofs.MastersCuts.{master_lives, master_entries, master_newer, master_late}
 use Rattle.std.proofs.lemmas.Bool.{eqb-true}
-use Rattle.curp_law_kept.proofs.Words.{Follows, adopted_stays, one_state, serving_later}
 use Rattle.curp_cmd.proofs.Nodes.{either_node}
 
 module _ {w v : World} (known : Known w) (now : Known v) (chain : Predecessors w) (later : Predecessors v) (ordered : Ordered w) {n : ℕ} {from : NodeId} {heard : Option Body} {x y : MasterState} {out : List Message}

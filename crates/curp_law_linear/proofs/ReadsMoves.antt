@@ -21,7 +21,7 @@ use Rattle.curp_law_linear.specs.Refined.{NoAdoption, Refines}
 use Rattle.curp_law_linear.proofs.ReadsStored.{stored_now, stored_stays}
 use Rattle.curp_facts.specs.Predecessors.{Predecessors}
 use Rattle.curp_facts.specs.Migrated.{AllStored}
-use Rattle.curp_law_kept.proofs.Words.{Follows, adopted_stays}
+use Rattle.curp_law_kept.proofs.Gives.{Follows, adopted_stays}
 
 -- no move drops looks of that length in that partition
 abbrev pub NoneDrops : List LineMove → ℕ → ℕ → Type 0

@@ -24,7 +24,7 @@ use Rattle.curp_facts.specs.Names.{RecoverOrderOk}
 use Rattle.curp_model.specs.Witness.{WitnessState}
 use Rattle.curp_msg.specs.declared.body.Probed.{Probed}
 use Rattle.curp_model.specs.declared.Mode.TheVariants as mode
-use Rattle.curp_law_kept.proofs.Words.{Follows, adopted_stays, backup_later, sent_later}
+use Rattle.curp_law_kept.proofs.Gives.{Follows, adopted_stays, backup_later, sent_later}
 
 -- lists that are adopted now are of no earlier epoch than those of their partition that were
 abbrev pub NewerLists : World → World → Type 0

@@ -24,12 +24,8 @@ use Rattle.curp_facts.specs.Facts.{EntryWas, IsAdoptedNow, WasSent}
 use Rattle.curp_facts.specs.Nodes.{MayCome}
 use Rattle.curp_facts.specs.Said.{WorthSaid}
 use Rattle.curp_law_kept.specs.ClientEffect.{ByValue, CompletionOk, MayComplete, ByQuick}
-use Rattle.curp_law_kept.proofs.ClientSteps.{ClientMoved}
-use Rattle.curp_law_kept.proofs.Clients.{client_messages, effect}
+use Rattle.curp_law_kept.proofs.Gives.{ClientMoved, client_messages, effect, fits, said, adopted_back, sent_back, SaysMore, nothing_ready, Follows}
 use Rattle.curp_facts.specs.Known.{Known}
-use Rattle.curp_law_kept.proofs.Known.{fits, said}
-use Rattle.curp_law_kept.proofs.Moved.{adopted_back, sent_back}
-use Rattle.curp_law_kept.proofs.Others.{SaysMore, nothing_ready}
 use Rattle.curp_law_linear.specs.Ordered.{IsStored, Ordered, StoredFrom, WorthOk, QuickOk, capture_of}
 use Rattle.curp_law_linear.specs.Refined.{Refines}
 use Rattle.curp_law_linear.proofs.ReadsLater.{EntryStays, ReadWas, ReadsWere, ReadsOk, reads_later, looked_capture, quick_capture}
@@ -46,7 +42,6 @@ use Rattle.curp_law_linear.specs.OfWorld.{cuts}
 use Rattle.curp_law_linear.proofs.CutsTimes.{timed_stay}
 use Rattle.curp_msg.specs.declared.body.Quick.{Quick as QuickValue}
 use Rattle.curp_facts.specs.Reach.{QuickSaid}
-use Rattle.curp_law_kept.proofs.Words.{Follows}
 
 -- ---- marks
 

@@ -22,13 +22,9 @@ use Rattle.curp_facts.specs.Known.{Known}
 use Rattle.curp_law_linear.specs.Line.{LookGives}
 use Rattle.curp_law_linear.specs.Ordered.{CaptureOk, IsStored}
 use Rattle.curp_law_kept.specs.Moves.{HasAcknowledged}
-use Rattle.curp_law_kept.proofs.Among.{each_tested}
-use Rattle.curp_law_kept.proofs.Synced.{acknowledged_many}
-use Rattle.curp_law_kept.proofs.NumberedLists.{among_each}
+use Rattle.curp_law_kept.proofs.Gives.{each_tested, acknowledged_many, among_each, no_switch}
 use Rattle.curp_facts.specs.Predecessors.{Predecessor, Predecessors}
-use Rattle.curp_law_runs.proofs.Adoptions.{adoptions_ok}
-use Rattle.curp_law_runs.proofs.Lists.{order_first, ready}
-use Rattle.curp_law_kept.proofs.MastersReady.{no_switch}
+use Rattle.curp_law_runs.proofs.Gives.{adoptions_ok, order_first, ready}
 
 -- a backup has acknowledged so many entries, and so late a round
 pub record HasRound (m : MasterState) (long round : ℕ) (node : NodeId) : Type 0 where

@@ -12,10 +12,9 @@ use Rattle.curp_facts.specs.Facts.{IsAdoptedNow, Lists, lists_of_part}
 use Rattle.curp_facts.specs.Known.{Known}
 use Rattle.curp_law_linear.specs.Ordered.{IsStored, LooksReached, LooksStored, StoredFrom}
 use Rattle.curp_facts.specs.Predecessors.{Predecessors}
-use Rattle.curp_law_runs.proofs.Along.{reach_along}
-use Rattle.curp_law_runs.proofs.Logs.{reached}
+use Rattle.curp_law_runs.proofs.Gives.{reach_along, reached}
 use Rattle.curp_facts.specs.Migrated.{AllStored}
-use Rattle.curp_law_kept.proofs.Words.{Follows, adopted_stays, log_later, reach_later}
+use Rattle.curp_law_kept.proofs.Gives.{Follows, adopted_stays, log_later, reach_later}
 
 -- ---- one step later
 

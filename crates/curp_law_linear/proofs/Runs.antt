@@ -5,20 +5,16 @@ use Rattle.curp_msg.specs.declared.script.Step.{Step}
 use Rattle.curp_model.specs.World.{World, step, world}
 use Rattle.curp_facts.specs.Growth.{Grows}
 use Rattle.curp_msg.specs.Script.{IsRun, IsStep}
-use Rattle.curp_law_kept.proofs.WorldsGrow.{step_grows}
-use Rattle.curp_law_kept.proofs.Cases.{StepCase, ByBackup, ByClient, ByManager, ByMaster, ByWitness, Rests, Stays, step_case}
+use Rattle.curp_law_kept.proofs.Gives.{step_grows, StepCase, ByBackup, ByClient, ByManager, ByMaster, ByWitness, Rests, Stays, step_case, along, known_step, Later, step_goes}
 use Rattle.curp_facts.specs.Known.{Known}
-use Rattle.curp_law_kept.proofs.Steps.{along, known_step}
 use Rattle.curp_law_linear.specs.Ordered.{Ordered}
 use Rattle.curp_law_linear.proofs.Always.{KeepsOrder, backup_keeps_order, client_keeps_order, master_keeps_order, ordered_after, rest_keeps_order, stay_keeps_order, witness_keeps_order}
 use Rattle.curp_law_linear.proofs.Commands.{commands_step}
 use Rattle.curp_law_linear.proofs.ManagersKeep.{manager_keeps_order}
 use Rattle.curp_law_linear.proofs.Opened.{ordered_opening}
-use Rattle.curp_law_kept.proofs.Later.{Later}
-use Rattle.curp_law_kept.proofs.Runs.{step_goes}
 use Rattle.curp_facts.specs.Kept.{LivesEarly}
 use Rattle.curp_law_linear.proofs.LivesEarly.{lives_step, lives_opening}
-use Rattle.curp_law_runs.proofs.Always.{Moving, migrated_now, moving_opening, moving_step}
+use Rattle.curp_law_runs.proofs.Gives.{Moving, migrated_now, moving_opening, moving_step}
 
 -- what holds in every run, beside what nodes and messages keep
 pub record Orderly (w : World) : Type 0 where

@@ -9,7 +9,7 @@ use Rattle.curp_model.specs.Marks.{Mark, is_shown, is_update_mark, shown}
 use Rattle.curp_law_kept.specs.Hashes.{In, asked, updates}
 use Rattle.curp_law_linear.specs.Line.{KindsOk, answer_at}
 use Rattle.curp_law_linear.proofs.Lists.{in_head, in_tail}
-use Rattle.curp_law_kept.proofs.Values.{read_only}
+use Rattle.curp_law_kept.proofs.Gives.{read_only}
 
 -- the store over all that is shown is that over the updates
 pub shown_store : (s : Contents) (marks : List Mark) → ((m : Mark) → In m marks → is_update m.command ≡ is_update_mark m.place) → store_after s (shown marks) ≡ store_after s (updates marks)

@@ -12,7 +12,7 @@ use Rattle.curp_model.specs.Log.{LogState, after_entries, after_entry, meaning}
 use Rattle.curp_model.proofs.Logs.{meaning_append}
 use Rattle.curp_law_kept.specs.Hashes.{NoGive}
 use Rattle.curp_law_linear.specs.Hashes.{Part, owns}
-use Rattle.curp_law_kept.proofs.Ranges.{owned_without}
+use Rattle.curp_law_kept.proofs.Gives.{owned_without}
 
 outside : (lo hi h : ℕ) → is_in lo hi h ≡ false → (h < lo) ⊎ (hi < h)
 outside lo hi h e = go (nat_le lo h) (nat_le h hi) refl refl e

@@ -19,12 +19,7 @@ use Rattle.curp_base.proofs.Numbered.{any_at}
 use Rattle.curp_law_linear.specs.Ordered.{Ordered, moved_number}
 use Rattle.curp_law_linear.proofs.MastersRise.{adopted_ok, give_given, take_given}
 use Rattle.curp_law_kept.specs.Migrations.{MovesNothing, give_number, take_number}
-use Rattle.curp_law_kept.proofs.LogValues.{untouched}
-use Rattle.curp_law_kept.proofs.Logs.{op_owned}
-use Rattle.curp_law_kept.proofs.Migrations.{owned_more}
-use Rattle.curp_law_kept.proofs.Packages.{take_covered}
-use Rattle.curp_law_kept.proofs.Ranges.{covered_owns}
-use Rattle.curp_law_kept.proofs.Taken.{owned_taken}
+use Rattle.curp_law_kept.proofs.Gives.{untouched, op_owned, owned_more, take_covered, covered_owns, owned_taken}
 use Rattle.curp_facts.specs.Predecessors.{Predecessors}
 use Rattle.curp_facts.specs.Migrated.{Migrated}
 use Rattle.curp_facts.specs.Routes.{Routes}

@@ -21,7 +21,7 @@ use Rattle.curp_law_linear.proofs.Spans.{without_owned}
 use Rattle.curp_law_linear.proofs.Hashes.{any_push}
 use Rattle.curp_law_linear.proofs.Lines.{known_push}
 use Rattle.curp_law_linear.proofs.Pushes as pushes
-use Rattle.curp_law_kept.proofs.Behind.{behind_from_append, came_from_append}
+use Rattle.curp_law_kept.proofs.Gives.{behind_from_append, came_from_append}
 
 -- what a take leaves
 pub owned_take : (lo hi : ℕ) (log : List Entry) (number : ℕ) (k : Package) → (meaning lo hi (log ++ Take number k ∷ [])).owned ≡ without (meaning lo hi log).owned k.lo k.hi

@@ -1,4 +1,4 @@
-pub mod Orders
-pub mod Batches
-pub mod Runs
-pub mod Events
+mod Orders
+mod Batches
+mod Runs
+mod Events

@@ -13,7 +13,7 @@ use Rattle.curp_model.specs.World.{World, messages}
 use Rattle.curp_facts.specs.Facts.{AtOpening, ByRecovery, ByReplacement, IsGiven, Lists, WasAdopted, WasSent}
 use Rattle.curp_facts.specs.Invariant.{Invariant}
 use Rattle.curp_facts.specs.Names.{AdoptedOk, Names, RecoverOrderOk, PrepareOk}
-use Rattle.curp_law_kept.proofs.Later.{Later, adopted_later}
+use Rattle.curp_law_kept.proofs.Gives.{Later, adopted_later}
 use Rattle.curp_law_runs.specs.Adopting.{Adopts}
 use Rattle.curp_facts.specs.Predecessors.{Predecessor, Predecessors}
 use Rattle.curp_law_runs.proofs.Chain.{chain_later}

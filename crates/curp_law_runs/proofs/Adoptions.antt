@@ -16,7 +16,7 @@ use Rattle.curp_facts.specs.Invariant.{Invariant}
 use Rattle.curp_facts.specs.Kept.{AdoptionOk, AdoptionsOk}
 use Rattle.curp_facts.specs.Said.{RecoveredSaid}
 use Rattle.curp_facts.specs.Names.{Names, RecoverOrderOk}
-use Rattle.curp_law_kept.proofs.NumberedLists.{each_among}
+use Rattle.curp_law_kept.proofs.Gives.{each_among}
 use Rattle.curp_facts.specs.Predecessors.{Predecessor, Predecessors}
 use Rattle.curp_law_runs.proofs.Lists.{order_first}
 use Rattle.curp_law_runs.proofs.Logs.{begins, reached}

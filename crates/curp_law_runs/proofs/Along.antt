@@ -15,10 +15,8 @@ use Rattle.curp_facts.specs.Facts.{HasLog, IsAmong, Lists, Logged, WasAdopted, h
 use Rattle.curp_facts.specs.Invariant.{Invariant}
 use Rattle.curp_facts.specs.Kept.{AdoptionOk}
 use Rattle.curp_facts.specs.Reach.{Reach}
-use Rattle.curp_law_kept.proofs.Logs.{prefix_take}
-use Rattle.curp_law_kept.proofs.Replayed.{replay_prefix}
+use Rattle.curp_law_kept.proofs.Gives.{prefix_take, replay_prefix, each_among}
 use Rattle.curp_facts.specs.Names.{Names}
-use Rattle.curp_law_kept.proofs.NumberedLists.{each_among}
 use Rattle.curp_law_runs.specs.Along.{HoldsOn, IsLast, IsLasting, IsRecoverable}
 use Rattle.curp_facts.specs.Predecessors.{Predecessors}
 use Rattle.curp_law_runs.proofs.Adoptions.{adoptions_ok}

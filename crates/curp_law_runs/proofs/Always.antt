@@ -4,9 +4,8 @@ use Rattle.curp_msg.specs.declared.script.Header.{Header}
 use Rattle.curp_msg.specs.declared.script.Step.{Step}
 use Rattle.curp_model.specs.World.{World, opening, step, world}
 use Rattle.curp_msg.specs.Script.{IsRun, IsStep}
-use Rattle.curp_law_kept.proofs.Followed.{follows_step}
+use Rattle.curp_law_kept.proofs.Gives.{follows_step, along, known_step}
 use Rattle.curp_facts.specs.Known.{Known}
-use Rattle.curp_law_kept.proofs.Steps.{along, known_step}
 use Rattle.curp_facts.specs.Predecessors.{Predecessors}
 use Rattle.curp_law_runs.proofs.Adopted.{chain_opening}
 use Rattle.curp_law_runs.proofs.Chained.{chain_step}

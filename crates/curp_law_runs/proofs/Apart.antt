@@ -18,7 +18,7 @@ use Rattle.curp_model.specs.World.{World, messages}
 use Rattle.curp_facts.specs.Facts.{WasSent}
 use Rattle.curp_facts.specs.Known.{Known}
 use Rattle.curp_facts.specs.Names.{AllDiffer, ConfigurationOk}
-use Rattle.curp_law_kept.proofs.Known.{from_manager}
+use Rattle.curp_law_kept.proofs.Gives.{from_manager}
 use Rattle.curp_law_steps.specs.Trip.{BringsApart, WitnessesAreApart}
 
 -- ---- lists whose nodes differ

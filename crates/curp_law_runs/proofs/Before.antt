@@ -18,10 +18,9 @@ use Rattle.curp_model.specs.World.{World, messages, opening}
 use Rattle.curp_facts.specs.Facts.{Logged, WasSent}
 use Rattle.curp_facts.specs.Kept.{AdoptedLog}
 use Rattle.curp_facts.specs.Said.{IsTakeOf, StoredEntry}
-use Rattle.curp_law_kept.proofs.ManagerWorlds.{sent_cases}
+use Rattle.curp_law_kept.proofs.Gives.{sent_cases, Follows, log_later, sent_later}
 use Rattle.curp_law_runs.proofs.Logs.{has_home}
 use Rattle.curp_law_runs.proofs.Words.{one_log, said}
-use Rattle.curp_law_kept.proofs.Words.{Follows, log_later, sent_later}
 use Rattle.curp_facts.specs.Before.{GivesBefore, Routed}
 use Rattle.curp_facts.specs.Migrated.{WasTold}
 use Rattle.curp_facts.specs.Routes.{IsMoving}

@@ -35,20 +35,12 @@ use Rattle.curp_msg.specs.Script.{IsRun, IsStep}
 use Rattle.curp_law_kept.specs.Deeds.{IsFor}
 use Rattle.curp_law_kept.specs.BackupEffect.{BackupAnswers, BackupSays}
 use Rattle.curp_law_kept.specs.WitnessEffect.{WitnessAnswers, WitnessSays}
-use Rattle.curp_law_kept.proofs.BackupEffects.{backup_effect}
-use Rattle.curp_law_kept.proofs.WitnessEffects.{witness_effect}
+use Rattle.curp_law_kept.proofs.Gives.{backup_effect, witness_effect, ByBackup, ByClient, ByManager, ByMaster, ByWitness, Rests, StepCase, Stays, step_case, fits, manager_does, StageMove, heard_in, input_moves, speaker, along, known_step, numbered_set_cases, sent_now}
 use Rattle.curp_law_kept.specs.ManagerEffect.{Uttered}
-use Rattle.curp_law_kept.proofs.Cases.{ByBackup, ByClient, ByManager, ByMaster, ByWitness, Rests, StepCase, Stays, step_case}
 use Rattle.curp_facts.specs.Known.{Known}
-use Rattle.curp_law_kept.proofs.Known.{fits}
-use Rattle.curp_law_kept.proofs.ManagersDo.{manager_does}
-use Rattle.curp_law_kept.proofs.MastersMoves.{StageMove, heard_in, input_moves, speaker}
-use Rattle.curp_law_kept.proofs.Steps.{along, known_step}
 use Rattle.curp_law_kept.specs.Moves.{IsSaidBy, RecoverySays, ServingSays}
 use Rattle.curp_law_kept.specs.Stages.{FreshSays}
 use Rattle.curp_facts.specs.Fits.{sender_kind}
-use Rattle.curp_law_kept.proofs.NumberedLists.{numbered_set_cases}
-use Rattle.curp_law_kept.proofs.ManagerWorlds.{sent_now}
 use Rattle.curp_law_runs.proofs.ClientsByOne.{OfOne, client_by_one}
 use Rattle.curp_model.proofs.Batches.{all_of-kept}
 

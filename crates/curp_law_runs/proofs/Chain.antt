@@ -11,7 +11,7 @@ use Rattle.curp_facts.specs.Facts.{ByRecovery, IsGiven, Lists, WasAdopted, WasSe
 use Rattle.curp_facts.specs.Invariant.{Invariant}
 use Rattle.curp_facts.specs.Said.{RecoveredSaid}
 use Rattle.curp_facts.specs.Names.{Names, RecoveringOk, Top}
-use Rattle.curp_law_kept.proofs.Later.{Later, adopted_later, given_later}
+use Rattle.curp_law_kept.proofs.Gives.{Later, adopted_later, given_later}
 use Rattle.curp_law_runs.specs.Adopting.{Adopts, Comes, FromRecovery, FromReplacement}
 use Rattle.curp_facts.specs.Predecessors.{Predecessor, Predecessors}
 use Rattle.curp_law_runs.proofs.Words.{said}

@@ -11,14 +11,9 @@ use Rattle.curp_model.specs.World.{World, opening, step, world}
 use Rattle.curp_facts.specs.Facts.{WasSent}
 use Rattle.curp_msg.specs.Script.{IsRun, IsStep}
 use Rattle.curp_law_kept.specs.Deeds.{IsFor}
-use Rattle.curp_law_kept.proofs.Cases.{step_case}
+use Rattle.curp_law_kept.proofs.Gives.{step_case, ManagerSpoke, who_spoke, sent_back, along, known_step, Later, step_goes}
 use Rattle.curp_facts.specs.Known.{Known}
-use Rattle.curp_law_kept.proofs.Movers.{ManagerSpoke, who_spoke}
-use Rattle.curp_law_kept.proofs.Moved.{sent_back}
-use Rattle.curp_law_kept.proofs.Steps.{along, known_step}
 use Rattle.curp_facts.specs.Names.{Names}
-use Rattle.curp_law_kept.proofs.Later.{Later}
-use Rattle.curp_law_kept.proofs.Runs.{step_goes}
 use Rattle.curp_facts.specs.Predecessors.{Predecessors}
 use Rattle.curp_law_runs.proofs.Adopted.{chain_opening, chain_stays}
 use Rattle.curp_law_runs.proofs.ManagerChain.{manager_chain}

@@ -26,20 +26,13 @@ use Rattle.curp_facts.specs.Known.{Known}
 use Rattle.curp_facts.specs.Routes.{InWork, Routes, order_of}
 use Rattle.curp_msg.specs.Script.{IsStep}
 use Rattle.curp_law_kept.specs.Deeds.{IsFor}
-use Rattle.curp_law_kept.proofs.Cases.{StepCase, step_case}
-use Rattle.curp_law_kept.proofs.Known.{from_manager}
-use Rattle.curp_law_kept.proofs.Moved.{sent_back}
-use Rattle.curp_law_kept.proofs.NumberedLists.{among_each}
-use Rattle.curp_law_kept.proofs.ManagerWorlds.{moved_messages, sent_cases}
+use Rattle.curp_law_kept.proofs.Gives.{StepCase, step_case, from_manager, sent_back, among_each, moved_messages, sent_cases, ordered_later, has_ranges_later, ranges_later, Follows}
 use Rattle.curp_law_runs.proofs.Moves.{step_moves}
 use Rattle.curp_law_runs.proofs.Orders.{manager_orders}
 use Rattle.curp_law_runs.proofs.Steps.{nothing_sent}
 use Rattle.curp_law_runs.specs.Orders.{BeginsMigration, Ends, KeepsRanges, MayOrder, Orders, Stays}
 use Rattle.curp_law_runs.specs.Steps.{ByManager, ByOther, ManagerMoves}
-use Rattle.curp_law_kept.proofs.Entries.{ordered_later}
-use Rattle.curp_law_kept.proofs.Said.{has_ranges_later, ranges_later}
-use Rattle.curp_law_kept.proofs.Words.{Follows}
-use Rattle.curp_law_steps.proofs.Inputs.{heard_keeps, ordered_keeps}
+use Rattle.curp_law_steps.proofs.Gives.{heard_keeps, ordered_keeps}
 
 -- ---- where the manager stays as it is
 

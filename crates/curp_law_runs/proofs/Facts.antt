@@ -10,8 +10,7 @@ use Rattle.curp_facts.specs.Kept.{FactsKept, PartsHaveEntries}
 use Rattle.curp_facts.specs.Known.{Known}
 use Rattle.curp_facts.specs.Names.{Names}
 use Rattle.curp_msg.specs.Script.{IsRun}
-use Rattle.curp_law_kept.proofs.Frozen.{frozen_apart}
-use Rattle.curp_law_kept.proofs.Runs.{always}
+use Rattle.curp_law_kept.proofs.Gives.{frozen_apart, always}
 use Rattle.curp_law_runs.proofs.Adoptions.{adoptions_ok}
 use Rattle.curp_law_runs.proofs.BackupsFollow.{backups_follow}
 use Rattle.curp_law_runs.proofs.Collections.{collections_ok}

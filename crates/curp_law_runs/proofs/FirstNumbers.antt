@@ -23,7 +23,7 @@ use Rattle.curp_facts.specs.Facts.{FenceReplyOk, FencedLogOk, FrozenOk, HasLog, 
 use Rattle.curp_facts.specs.Invariant.{Invariant}
 use Rattle.curp_facts.specs.Kept.{AllCompletedBelow, BodyFirstOk, EntryFirstOk, FirstNumbersOk, ReplyFirstOk, RequestFirstOk, SuspectsFirstOk}
 use Rattle.curp_facts.specs.Said.{AppendSaid, IsTakeOf, Says, StoredEntry, SuspectsHold}
-use Rattle.curp_law_kept.proofs.Frozen.{kept_held}
+use Rattle.curp_law_kept.proofs.Gives.{kept_held}
 use Rattle.curp_facts.specs.Names.{Names}
 use Rattle.curp_law_runs.proofs.Logs.{has_home, log_ok}
 use Rattle.curp_law_runs.proofs.Words.{said}

@@ -10,14 +10,8 @@ use Rattle.curp_model.specs.Manager.{manager_input}
 use Rattle.curp_model.specs.World.{World, step}
 use Rattle.curp_law_kept.specs.Deeds.{IsFor}
 use Rattle.curp_facts.specs.Known.{Known}
-use Rattle.curp_law_kept.proofs.Known.{fits}
+use Rattle.curp_law_kept.proofs.Gives.{fits, Arrives, manager_good, Both, step_goes, moved_messages, Follows}
 use Rattle.curp_facts.specs.Names.{Names}
-use Rattle.curp_law_kept.proofs.ClientsFit.{Arrives}
-use Rattle.curp_law_kept.proofs.ManagerNames.{manager_good}
-use Rattle.curp_law_kept.proofs.OthersNames.{Both}
-use Rattle.curp_law_kept.proofs.Runs.{step_goes}
-use Rattle.curp_law_kept.proofs.ManagerWorlds.{moved_messages}
-use Rattle.curp_law_kept.proofs.Words.{Follows}
 use Rattle.curp_facts.specs.Before.{GivesBefore, Routed}
 use Rattle.curp_facts.specs.Migrated.{Migrated}
 use Rattle.curp_facts.specs.Routes.{Routes}

@@ -1,41 +1,42 @@
-pub mod Adopted
-pub mod Adoptions
-pub mod Along
-pub mod Always
-pub mod Apart
-pub mod BackupsFollow
-pub mod Before
-pub mod ByOne
-pub mod Chain
-pub mod Chained
-pub mod ClientsByOne
-pub mod Collections
-pub mod Completed
-pub mod Configs
-pub mod EarlyReplies
-pub mod Facts
-pub mod FirstNumbers
-pub mod Kept
-pub mod Lists
-pub mod Logs
-pub mod ManagerChain
-pub mod MastersFollow
-pub mod Messages
-pub mod Migrated
-pub mod Moves
-pub mod Orders
-pub mod Pairs
-pub mod PairsTold
-pub mod Prefixes
-pub mod Ranges
-pub mod Requests
-pub mod Routes
-pub mod Said
-pub mod Silence
-pub mod Steps
-pub mod Stored
-pub mod Synced
-pub mod Told
-pub mod Uttered
-pub mod Witnessed
-pub mod Words
+pub mod Gives
+mod Adopted
+mod Adoptions
+mod Along
+mod Always
+mod Apart
+mod BackupsFollow
+mod Before
+mod ByOne
+mod Chain
+mod Chained
+mod ClientsByOne
+mod Collections
+mod Completed
+mod Configs
+mod EarlyReplies
+mod Facts
+mod FirstNumbers
+mod Kept
+mod Lists
+mod Logs
+mod ManagerChain
+mod MastersFollow
+mod Messages
+mod Migrated
+mod Moves
+mod Orders
+mod Pairs
+mod PairsTold
+mod Prefixes
+mod Ranges
+mod Requests
+mod Routes
+mod Said
+mod Silence
+mod Steps
+mod Stored
+mod Synced
+mod Told
+mod Uttered
+mod Witnessed
+mod Words

@@ -23,8 +23,7 @@ use Rattle.curp_facts.specs.Nodes.{MasterOk, StageOk}
 use Rattle.curp_facts.specs.Reach.{HasMany, Reach}
 use Rattle.curp_facts.specs.Said.{IsTakeOf, StoredEntry}
 use Rattle.curp_law_kept.specs.GivesFit.{GivesWithin, PairsWithin}
-use Rattle.curp_law_kept.proofs.GivesFit.{package_within}
-use Rattle.curp_law_kept.proofs.Packages.{take_package}
+use Rattle.curp_law_kept.proofs.Gives.{package_within, take_package}
 use Rattle.curp_facts.specs.Names.{Names}
 use Rattle.curp_law_runs.proofs.Lists.{ready}
 use Rattle.curp_law_runs.proofs.Words.{one_log, said}

@@ -16,8 +16,7 @@ use Rattle.curp_model.specs.World.{World, messages}
 use Rattle.curp_facts.specs.Facts.{IsAmong, IsGiven, Lists, WasSent, lists_of_part}
 use Rattle.curp_facts.specs.Invariant.{Invariant}
 use Rattle.curp_facts.specs.Names.{AdoptedOk, Names, RecoveringOk}
-use Rattle.curp_law_kept.proofs.Later.{Later}
-use Rattle.curp_law_kept.proofs.ManagerWorlds.{manager_moved, moved_messages, sent_cases}
+use Rattle.curp_law_kept.proofs.Gives.{Later, manager_moved, moved_messages, sent_cases}
 use Rattle.curp_law_runs.specs.Adopting.{Comes, FromRecovery, FromReplacement}
 use Rattle.curp_facts.specs.Predecessors.{Predecessors}
 use Rattle.curp_law_runs.proofs.Adopted.{adopted_back, adopted_word}

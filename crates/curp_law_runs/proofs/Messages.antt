@@ -23,13 +23,10 @@ use Rattle.curp_facts.specs.Facts.{AcceptedOk, AppendAnswerOk, BodyOk, HasLog, I
 use Rattle.curp_facts.specs.Invariant.{Invariant}
 use Rattle.curp_facts.specs.Reach.{Reach, SyncedSaid}
 use Rattle.curp_facts.specs.Said.{AcceptedSaid, AppendHolds, GcHolds, IsGiveFrom, IsTakeOf, ReplyHolds, ReplySaid, Says}
-use Rattle.curp_law_kept.proofs.Early.{synced_stands}
-use Rattle.curp_law_kept.proofs.Frozen.{held_kept}
-use Rattle.curp_law_kept.proofs.Standings.{stands_here}
+use Rattle.curp_law_kept.proofs.Gives.{synced_stands, held_kept, stands_here, each_among, is_manager}
 use Rattle.curp_facts.specs.Names.{IsOf, Names}
 use Rattle.curp_facts.specs.Configs.{Configs}
 use Rattle.curp_facts.specs.Fits.{MessageFits, Nodes, sender_kind}
-use Rattle.curp_law_kept.proofs.NumberedLists.{each_among}
 use Rattle.curp_law_runs.specs.GivenStand.{GivenStand}
 use Rattle.curp_facts.specs.Predecessors.{Predecessors}
 use Rattle.curp_law_runs.proofs.Logs.{begins, reached}
@@ -37,7 +34,6 @@ use Rattle.curp_law_runs.proofs.Ranges.{config_ok}
 use Rattle.curp_law_runs.proofs.Requests.{held_there}
 use Rattle.curp_law_runs.proofs.PairsTold.{is_server, package_ok, taken_on_adopted}
 use Rattle.curp_law_runs.proofs.Words.{said}
-use Rattle.curp_law_kept.proofs.ClientsFit.{is_manager}
 
 -- a node of a kind is a node
 of_is_node : (w : World) (k : NodeKind) (node : NodeId) → IsOf w k node → IsNode w node

@@ -27,16 +27,13 @@ use Rattle.curp_facts.specs.Kept.{AdoptedLog}
 use Rattle.curp_facts.specs.Reach.{Tells}
 use Rattle.curp_facts.specs.Said.{IsTakeOf, StoredEntry}
 use Rattle.curp_law_kept.specs.Standing.{StandsHere}
-use Rattle.curp_law_kept.proofs.Logs.{prefix_take}
-use Rattle.curp_law_kept.proofs.Standings.{stands_longer}
-use Rattle.curp_law_kept.proofs.Packages.{take_package}
+use Rattle.curp_law_kept.proofs.Gives.{prefix_take, stands_longer, take_package, recorded}
 use Rattle.curp_facts.specs.Names.{Names}
 use Rattle.curp_facts.specs.Predecessors.{Predecessors}
 use Rattle.curp_law_runs.proofs.Words.{said}
 use Rattle.curp_facts.specs.Before.{GivesBefore}
 use Rattle.curp_facts.specs.Migrated.{AllStored, Migrated, OnlyInWork, OpStored, TakeStored, WasTold}
 use Rattle.curp_facts.specs.Routes.{IsMigrationDone, IsGiveOf, IsMoving, Routes}
-use Rattle.curp_law_kept.proofs.Records.{recorded}
 use Rattle.curp_law_runs.proofs.Stored.{adopted_ok, place_in_prefix, one_adopted, one_entry, one_give, one_take, stored_now}
 
 module _ {w : World} (names : Names w) (inv : Invariant w) (chain : Predecessors w) (routes : Routes w) where

@@ -27,12 +27,7 @@ use Rattle.curp_facts.specs.Facts.{IsAmong}
 use Rattle.curp_law_kept.specs.Deeds as deeds
 use Rattle.curp_facts.specs.Names.{IsOf}
 use Rattle.curp_facts.specs.Fits.{MessageFits}
-use Rattle.curp_law_kept.proofs.ClientsFit.{Arrives, client_fits, is_manager}
-use Rattle.curp_law_kept.proofs.KeepersFit.{AllSaid, InputFits, Said, backup_fits, witness_fits}
-use Rattle.curp_law_kept.proofs.NumberedLists.{among_each}
-use Rattle.curp_law_kept.proofs.Named.{named}
-use Rattle.curp_law_kept.proofs.OthersNames.{Both}
-use Rattle.curp_law_kept.proofs.Recoverings.{IsForMaster, master_fits}
+use Rattle.curp_law_kept.proofs.Gives.{Arrives, client_fits, is_manager, AllSaid, InputFits, Said, backup_fits, witness_fits, among_each, named, Both, IsForMaster, master_fits}
 use Rattle.curp_law_runs.specs.Steps.{ByManager, ByOther, ManagerMoves}
 use Rattle.curp_base.proofs.Numbered.{place, number_within}
 use Rattle.curp_model.proofs.Batches.{all_of-kept}

@@ -35,9 +35,7 @@ use Rattle.curp_facts.specs.Invariant.{Invariant}
 use Rattle.curp_facts.specs.Said.{GiveWasOrdered, IsGiveFrom, StoredEntry}
 use Rattle.curp_law_kept.specs.Deeds.{IsFor}
 use Rattle.curp_facts.specs.Names.{Names}
-use Rattle.curp_law_kept.proofs.Keeps.{entry_now, entry_numbered}
-use Rattle.curp_law_kept.proofs.NumberedLists.{among_set, each_among, filter_among, first_among, there_among}
-use Rattle.curp_law_kept.proofs.Says.{each_flat}
+use Rattle.curp_law_kept.proofs.Gives.{entry_now, entry_numbered, among_set, each_among, filter_among, first_among, there_among, each_flat}
 use Rattle.curp_law_runs.proofs.Logs.{has_home}
 use Rattle.curp_law_runs.proofs.Words.{said}
 use Rattle.curp_law_runs.specs.Orders.{AllMayOrder, KeepsRanges, MayOrder, Orders}

@@ -15,8 +15,7 @@ use Rattle.curp_model.specs.Witness.{frozen_requests}
 use Rattle.curp_model.specs.World.{World}
 use Rattle.curp_facts.specs.Facts.{Completable, HasLog, IsAdoptedNow, Lists, Logged, PairsGood, WasAdopted, hi_of, lists_of_part, lo_of}
 use Rattle.curp_facts.specs.Invariant.{Invariant}
-use Rattle.curp_law_kept.proofs.Early.{stands_grows}
-use Rattle.curp_law_kept.proofs.Replayed.{replay_prefix}
+use Rattle.curp_law_kept.proofs.Gives.{stands_grows, replay_prefix}
 use Rattle.curp_facts.specs.Names.{Names, Top}
 use Rattle.curp_law_runs.specs.Along.{HoldsOn, IsLast, IsRecoverable}
 use Rattle.curp_law_runs.specs.Answered.{AnsweredBy, PairsHave}

@@ -14,7 +14,7 @@ use Rattle.curp_model.specs.World.{World}
 use Rattle.curp_facts.specs.Facts.{AtFirst, ConfigOk, EntryWas, HasRanges, IsAmong, Migrated, RangesAfter, WasMigrated, WasOrdered, ranges_at_first, ranges_moved}
 use Rattle.curp_facts.specs.Names.{Names}
 use Rattle.curp_model.proofs.OpeningRanges.{last_fits, one_has}
-use Rattle.curp_law_kept.proofs.NumberedLists.{among_each}
+use Rattle.curp_law_kept.proofs.Gives.{among_each}
 
 -- what ascending spans own is below their end
 owned_below : (from end : ℕ) (xs : List Span) (h : ℕ) → AscendWithin from end xs → is_owned xs h ≡ true → h < end

@@ -14,12 +14,8 @@ use Rattle.curp_msg.specs.declared.message.Message.{Message}
 use Rattle.curp_model.specs.Manager.{ManagerState, Migration, Shape}
 use Rattle.curp_model.specs.World.{World, messages}
 use Rattle.curp_facts.specs.Facts.{IsMasterOf, WasOrdered, WasSent}
-use Rattle.curp_law_kept.proofs.ManagerWorlds.{sent_cases, sent_now}
-use Rattle.curp_law_kept.proofs.Moved.{given_back, sent_back}
+use Rattle.curp_law_kept.proofs.Gives.{sent_cases, sent_now, given_back, sent_back, ordered_later, entry_stored_later, Follows, given_stays, sent_later}
 use Rattle.curp_facts.specs.Names.{IsAdoptedMaster, Names}
-use Rattle.curp_law_kept.proofs.Entries.{ordered_later}
-use Rattle.curp_law_kept.proofs.Replies.{entry_stored_later}
-use Rattle.curp_law_kept.proofs.Words.{Follows, given_stays, sent_later}
 use Rattle.curp_law_runs.specs.Orders.{BeginsMigration, Ends, MayOrder, Orders, Stays}
 use Rattle.curp_facts.specs.Routes.{InWork, IsMigrationDone, IsGiveOf, IsMoving, Routes, order_of}
 

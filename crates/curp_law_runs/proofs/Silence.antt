@@ -25,17 +25,10 @@ use Rattle.curp_facts.specs.Silence.{IsSilentIn, SwitchesOn}
 use Rattle.curp_law_kept.specs.Deeds.{IsFor}
 use Rattle.curp_law_kept.specs.BackupEffect.{BackupSays}
 use Rattle.curp_law_kept.specs.WitnessEffect.{WitnessSays}
-use Rattle.curp_law_kept.proofs.BackupEffects.{backup_effect}
-use Rattle.curp_law_kept.proofs.WitnessEffects.{witness_effect}
+use Rattle.curp_law_kept.proofs.Gives.{backup_effect, witness_effect, switching_little, switching_ordered_little, step_grows, ByBackup, ByClient, ByManager, ByMaster, ByWitness, Rests, StepCase, Stays, step_case, client_messages, manager_does, heard_in, input_moves, speaker, stage_from}
 use Rattle.curp_base.proofs.Numbered.{numbered_same, numbered_set_same}
-use Rattle.curp_law_kept.proofs.Switches.{switching_little, switching_ordered_little}
-use Rattle.curp_law_kept.proofs.WorldsGrow.{step_grows}
 use Rattle.curp_law_kept.specs.ManagerEffect.{Uttered}
-use Rattle.curp_law_kept.proofs.Cases.{ByBackup, ByClient, ByManager, ByMaster, ByWitness, Rests, StepCase, Stays, step_case}
-use Rattle.curp_law_kept.proofs.Clients.{client_messages}
 use Rattle.curp_facts.specs.Known.{Known}
-use Rattle.curp_law_kept.proofs.ManagersDo.{manager_does}
-use Rattle.curp_law_kept.proofs.MastersMoves.{heard_in, input_moves, speaker, stage_from}
 use Rattle.curp_model.proofs.Batches.{all_of-kept}
 
 -- what one master sends by an input that leaves it switching

@@ -11,8 +11,7 @@ use Rattle.curp_facts.specs.Facts.{WasSent}
 use Rattle.curp_law_kept.specs.Deeds.{IsFor}
 use Rattle.curp_facts.specs.Known.{Known}
 use Rattle.curp_facts.specs.Names.{Names}
-use Rattle.curp_law_kept.proofs.ManagerWorlds.{manager_moved, moved_messages}
-use Rattle.curp_law_kept.proofs.Words.{Follows}
+use Rattle.curp_law_kept.proofs.Gives.{manager_moved, moved_messages, Follows}
 use Rattle.curp_facts.specs.Routes.{Routes}
 use Rattle.curp_law_runs.proofs.Orders.{manager_orders}
 use Rattle.curp_law_runs.proofs.Routes.{manager_keeps_routes}

@@ -18,9 +18,8 @@ use Rattle.curp_facts.specs.Invariant.{Invariant}
 use Rattle.curp_facts.specs.Kept.{AdoptedLog}
 use Rattle.curp_facts.specs.Reach.{Reach}
 use Rattle.curp_facts.specs.Said.{StoredEntry}
-use Rattle.curp_law_kept.proofs.Logs.{prefix_take}
+use Rattle.curp_law_kept.proofs.Gives.{prefix_take, numbered_now, entry_numbered}
 use Rattle.curp_facts.specs.Names.{Names}
-use Rattle.curp_law_kept.proofs.Keeps.{numbered_now, entry_numbered}
 use Rattle.curp_facts.specs.Predecessors.{Predecessors}
 use Rattle.curp_law_runs.proofs.Along.{reach_along}
 use Rattle.curp_law_runs.proofs.Logs.{log_ok}

@@ -11,8 +11,7 @@ use Rattle.curp_facts.specs.Invariant.{Invariant}
 use Rattle.curp_facts.specs.Reach.{Reach, SyncedSaid}
 use Rattle.curp_facts.specs.Said.{ReplyHolds, ReplySaid}
 use Rattle.curp_law_kept.specs.Standing.{StandsHere}
-use Rattle.curp_law_kept.proofs.Early.{stands_from_here, synced_stands}
-use Rattle.curp_law_kept.proofs.Standings.{stands_here}
+use Rattle.curp_law_kept.proofs.Gives.{stands_from_here, synced_stands, stands_here}
 use Rattle.curp_facts.specs.Names.{Names}
 use Rattle.curp_law_runs.specs.Answered.{AnsweredBy}
 use Rattle.curp_law_runs.proofs.Logs.{begins, reached}

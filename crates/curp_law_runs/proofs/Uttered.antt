@@ -27,11 +27,7 @@ use Rattle.curp_model.specs.Manager.{Doing, ManagerState, Migration, NewLists, R
 use Rattle.curp_model.specs.World.{World}
 use Rattle.curp_facts.specs.Facts.{IsAdoptedNow, IsAmong, WasSent, lists_of_part}
 use Rattle.curp_facts.specs.Names.{AdoptedOk, Names, RecoveringOk}
-use Rattle.curp_law_kept.proofs.Keeps.{entry_now, entry_numbered, numbered_now}
-use Rattle.curp_law_kept.proofs.NumberedLists.{filter_among, first_among, there_among}
-use Rattle.curp_law_kept.proofs.Moves.{Nothing, Repeats}
-use Rattle.curp_law_kept.proofs.Quiet.{Again, AllAgain}
-use Rattle.curp_law_kept.proofs.Says.{adopted_again, nudge_again}
+use Rattle.curp_law_kept.proofs.Gives.{entry_now, entry_numbered, numbered_now, filter_among, first_among, there_among, Nothing, Repeats, Again, AllAgain, adopted_again, nudge_again}
 use Rattle.curp_law_runs.specs.Adopting.{Comes, FromRecovery, FromReplacement}
 use Rattle.curp_base.proofs.Numbered.{place}
 

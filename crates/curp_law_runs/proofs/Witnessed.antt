@@ -27,8 +27,7 @@ use Rattle.curp_facts.specs.Reach.{EarlySaid, GcSaid, HasMany, Reach}
 use Rattle.curp_facts.specs.Said.{AcceptedSaid, GcHolds, ReplyHolds, ReplySaid}
 use Rattle.curp_law_kept.specs.Hashes.{NotNew}
 use Rattle.curp_law_kept.specs.Standing.{StandsHere}
-use Rattle.curp_law_kept.proofs.Early.{collected_below, early_replayed, synced_stands}
-use Rattle.curp_law_kept.proofs.Frozen.{frozen_apart, held_kept}
+use Rattle.curp_law_kept.proofs.Gives.{collected_below, early_replayed, synced_stands, frozen_apart, held_kept}
 use Rattle.curp_facts.specs.Names.{Names}
 use Rattle.curp_law_runs.specs.Along.{IsLast}
 use Rattle.curp_law_runs.specs.Answered.{AnsweredBy, PairHas}

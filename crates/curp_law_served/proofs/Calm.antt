@@ -41,12 +41,9 @@ use Rattle.curp_range.specs.Spans.{Span}
 use Rattle.curp_model.specs.Named.{IsNode, IsNodeOf}
 use Rattle.curp_model.specs.World.{Gives, World, deed_of, invocation_of, is_stopped, kept, messages, moves, moves_one, result_of, step, steps_by, with_client, with_master}
 use Rattle.curp_law_kept.specs.After.{ClientAfter, ClientMoves, ClientStays}
-use Rattle.curp_law_kept.proofs.After.{step_after}
-use Rattle.curp_law_kept.proofs.WorldsGrow.{step_grows}
-use Rattle.curp_law_kept.proofs.Known.{fits}
-use Rattle.curp_law_kept.proofs.Steps.{known_step}
+use Rattle.curp_law_kept.proofs.Gives.{step_after, step_grows, fits, known_step}
 use Rattle.curp_law_steps.specs.Named.{StopsNone}
-use Rattle.curp_law_steps.proofs.Moving.{its_result, only_moves, stops_only_by_stop}
+use Rattle.curp_law_steps.proofs.Gives.{its_result, only_moves, stops_only_by_stop}
 use Rattle.curp_law_served.specs.Calm.{Calm, FitsIn}
 use Rattle.curp_law_served.specs.Grounds.{Grounds, IsCalm}
 use Rattle.curp_law_served.specs.Learns.{ClientLearns, IsBehindEntry}

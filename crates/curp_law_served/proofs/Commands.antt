@@ -16,7 +16,7 @@ use Rattle.curp_msg.specs.declared.script.Step.TheVariants as steps
 use Rattle.curp_msg.specs.Script.{IsHeader}
 use Rattle.curp_model.specs.Client.{ClientState}
 use Rattle.curp_model.specs.World.{World, messages, step}
-use Rattle.curp_law_kept.proofs.WorldsGrow.{step_grows}
+use Rattle.curp_law_kept.proofs.Gives.{step_grows}
 use Rattle.curp_law_served.specs.Learns.{ClientLearns}
 use Rattle.curp_law_served.specs.Renews.{renewed}
 use Rattle.curp_law_served.specs.Served.{AnsweredRequest, Served, and_then, answer_by, header_of, if_turn, in_turn, is_turn, makes, newest_in, quiets, replaces_master, serve, tidies, with_quieting}

@@ -34,7 +34,7 @@ use Rattle.curp_model.specs.declared.Verdict.TheVariants.{Deny, Execute, HoldBac
 use Rattle.curp_model.specs.declared.Verdict.{Verdict}
 use Rattle.curp_model.specs.declared.Wish.TheVariants.{AtOnce, WhenSynced}
 use Rattle.curp_model.specs.declared.Wish.{Wish}
-use Rattle.curp_law_kept.proofs.NumberedLists.{each_among}
+use Rattle.curp_law_kept.proofs.Gives.{each_among}
 use Rattle.curp_law_served.specs.Calm.{IsAwaited}
 use Rattle.curp_law_served.proofs.Serving.{IsHeard, Treated, treated_all}
 use Rattle.curp_model.specs.Log.{IsOp}

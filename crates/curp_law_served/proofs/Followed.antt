@@ -31,17 +31,9 @@ use Rattle.curp_model.specs.Recovery.{MasterStage, master_input}
 use Rattle.curp_model.specs.World.{Gives, World, deed_of, delivery, messages, opening, opening_master, shape_of, step}
 use Rattle.curp_law_kept.specs.After.{After, BackupAfter, BackupMoves, BackupNew, BackupStays, ByBackup, ByClient, ByManager, ByMaster, ByWitness, ClientAfter, ClientMoves, ClientStays, ManagerAfter, ManagerMoves, ManagerStays, MasterAfter, MasterMoves, MasterNew, MasterStays, MessageAfter, SentBefore}
 use Rattle.curp_law_kept.specs.Deeds.{IsFor}
-use Rattle.curp_law_kept.proofs.After.{step_after}
-use Rattle.curp_law_kept.proofs.WorldsGrow.{step_grows}
+use Rattle.curp_law_kept.proofs.Gives.{step_after, step_grows, backup_effect, witness_effect, client_messages, fits, from_manager, heard_in, input_moves, speaker, stage_from, known_step, among_each}
 use Rattle.curp_law_kept.specs.BackupEffect.{BackupSays}
 use Rattle.curp_law_kept.specs.WitnessEffect.{WitnessSays}
-use Rattle.curp_law_kept.proofs.BackupEffects.{backup_effect}
-use Rattle.curp_law_kept.proofs.WitnessEffects.{witness_effect}
-use Rattle.curp_law_kept.proofs.Clients.{client_messages}
-use Rattle.curp_law_kept.proofs.Known.{fits, from_manager}
-use Rattle.curp_law_kept.proofs.MastersMoves.{heard_in, input_moves, speaker, stage_from}
-use Rattle.curp_law_kept.proofs.Steps.{known_step}
-use Rattle.curp_law_kept.proofs.NumberedLists.{among_each}
 use Rattle.curp_law_served.specs.Served.{StopsMaster, header_of}
 use Rattle.curp_law_served.proofs.Clients.{client_goes}
 use Rattle.curp_law_served.proofs.Managers.{Advances, IsOlder, IsPlain, IsServed, advances_self, manager_goes, older_later, plain_later}

@@ -24,7 +24,7 @@ use Rattle.curp_model.specs.Named.{IsNodeOf}
 use Rattle.curp_model.specs.Ranges.{opening_range}
 use Rattle.curp_model.specs.Recovery.{Serving}
 use Rattle.curp_model.specs.World.{World}
-use Rattle.curp_law_kept.proofs.Known.{fits}
+use Rattle.curp_law_kept.proofs.Gives.{fits}
 use Rattle.curp_law_served.proofs.Homes.{witness_there}
 use Rattle.curp_law_served.specs.Calm.{Calm, IsUndelivered}
 use Rattle.curp_law_served.specs.Grounds.{Grounds, IsOurs, IsOurWitness, Roomy, Welcome}

@@ -30,10 +30,7 @@ use Rattle.curp_model.specs.Recovery.{MasterStage, master_input}
 use Rattle.curp_model.specs.Witness.{WitnessState, witness_input}
 use Rattle.curp_model.specs.World.{Deed, Gives, Nothing, Stepped, Stops, World, completion, deed_of, delivery, effect, events_of, invocation_of, kept, messages, moves_kind, moves_one, result_of, step, steps_by, with_backup, with_client, with_manager, with_master, with_witness}
 use Rattle.curp_law_kept.specs.Deeds.{IsFor, IsMeant}
-use Rattle.curp_law_kept.proofs.Deeds.{deed_meant}
-use Rattle.curp_law_kept.proofs.BackupEffects.{backup_effect}
-use Rattle.curp_law_kept.proofs.WitnessEffects.{witness_effect}
-use Rattle.curp_law_kept.proofs.MastersMoves.{input_idle}
+use Rattle.curp_law_kept.proofs.Gives.{deed_meant, backup_effect, witness_effect, input_idle}
 use Rattle.curp_law_served.specs.Served.{AnsweredRequest, answer_by, in_turn}
 use Rattle.curp_law_served.proofs.Clients.{Changes, Completes, Hears, Keeps, client_told}
 use Rattle.curp_law_served.proofs.Followed.{Follows, IsServedStep, served_input}

@@ -23,8 +23,8 @@ use Rattle.curp_model.specs.Master.{beginning}
 use Rattle.curp_model.specs.Ranges.{opening_range}
 use Rattle.curp_msg.specs.Moved.{within}
 use Rattle.curp_model.specs.World.{Stepped, World, kept, opening, opening_client, order, shape_of, step, with_client, world}
-use Rattle.curp_law_kept.proofs.Steps.{known_opening}
-use Rattle.curp_law_linear.proofs.Laws.{history_all, order_all}
+use Rattle.curp_law_kept.proofs.Gives.{known_opening}
+use Rattle.curp_law_linear.proofs.Gives.{history_all, order_all}
 use Rattle.curp_law_served.proofs.Homes.{backup_there}
 use Rattle.curp_law_served.specs.Calm.{Calm, IsUndelivered}
 use Rattle.curp_law_served.specs.Served.{AnsweredRequest, Served, Limit, after_all, answer_behind, answer_by, answered, begun, header_of, in_turn, most_steps, requests, serve, serve_all}

@@ -1,44 +1,45 @@
-pub mod Lists
-pub mod Acks
-pub mod Ways
-pub mod RoundsWait
-pub mod Settles
-pub mod Updates
-pub mod Serving
-pub mod Pending
-pub mod ClientsHear
-pub mod Keepers
-pub mod Asked
-pub mod Fits
-pub mod Steps
-pub mod Kept
-pub mod Ends
-pub mod Starts
-pub mod QuietLaws
-pub mod Recovers
-pub mod Adopts
-pub mod RenewSteps
-pub mod RenewSays
-pub mod Renews
-pub mod RenewStarts
-pub mod Learns
-pub mod RenewEnds
-pub mod Homes
-pub mod RoundsRise
-pub mod Managers
-pub mod Clients
-pub mod Followed
-pub mod Bounds
-pub mod Welcomes
-pub mod Owning
-pub mod Grounding
-pub mod InTurn
-pub mod Renewing
-pub mod Made
-pub mod Calm
-pub mod Recovery
-pub mod History
-pub mod Turns
-pub mod Commands
-pub mod Answers
-pub mod Laws
+pub mod Gives
+mod Lists
+mod Acks
+mod Ways
+mod RoundsWait
+mod Settles
+mod Updates
+mod Serving
+mod Pending
+mod ClientsHear
+mod Keepers
+mod Asked
+mod Fits
+mod Steps
+mod Kept
+mod Ends
+mod Starts
+mod QuietLaws
+mod Recovers
+mod Adopts
+mod RenewSteps
+mod RenewSays
+mod Renews
+mod RenewStarts
+mod Learns
+mod RenewEnds
+mod Homes
+mod RoundsRise
+mod Managers
+mod Clients
+mod Followed
+mod Bounds
+mod Welcomes
+mod Owning
+mod Grounding
+mod InTurn
+mod Renewing
+mod Made
+mod Calm
+mod Recovery
+mod History
+mod Turns
+mod Commands
+mod Answers
+mod Laws

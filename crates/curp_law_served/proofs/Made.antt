@@ -23,10 +23,8 @@ use Rattle.curp_model.specs.Recovery.{MasterStage, master_input}
 use Rattle.curp_model.specs.Witness.{WitnessState, witness_input}
 use Rattle.curp_model.specs.World.{Deed, Gives, World, deed_of, delivery, effect, has_node, is_lost, is_stopped, is_there, is_too_much, messages, moves, moves_kind, moves_one, names_nobody, names_stopped, refusal, result_of, step, stops_manager, subject, weight, with_backup, with_client, with_master, with_witness}
 use Rattle.curp_law_kept.specs.After.{ManagerAfter, ManagerMoves, ManagerStays}
-use Rattle.curp_law_kept.proofs.After.{step_after}
-use Rattle.curp_law_kept.proofs.BackupEffects.{backup_effect}
-use Rattle.curp_law_kept.proofs.WitnessEffects.{witness_effect}
-use Rattle.curp_law_steps.proofs.Moving.{its_result}
+use Rattle.curp_law_kept.proofs.Gives.{step_after, backup_effect, witness_effect}
+use Rattle.curp_law_steps.proofs.Gives.{its_result}
 use Rattle.curp_law_served.proofs.Clients.{client_told}
 use Rattle.curp_law_served.proofs.Followed.{Follows}
 use Rattle.curp_law_served.proofs.Managers.{manager_takes}

@@ -10,7 +10,7 @@ use Rattle.curp_cmd.specs.Hash.{hash_of, hashed_from, hashes, offset_basis, prim
 use Rattle.curp_cmd.specs.Store.{keys_of}
 use Rattle.curp_cmd.specs.declared.command.Command.{Command}
 use Rattle.curp_cmd.specs.declared.entry.Entry.{Entry}
-use Rattle.curp_law_kept.proofs.MasterLists.{each_inserted}
+use Rattle.curp_law_kept.proofs.Gives.{each_inserted}
 use Rattle.curp_model.specs.Log.{log_opening, IsOp}
 use Rattle.curp_model.specs.Master.{MasterState, state_of}
 use Rattle.curp_model.specs.Ranges.{owns_all}

@@ -23,7 +23,7 @@ use Rattle.curp_msg.specs.declared.message.Message.{Message}
 use Rattle.curp_facts.specs.Facts.{IsAmong}
 use Rattle.curp_model.specs.Log.{is_log}
 use Rattle.curp_model.specs.Recovery.{Asking, RecoveryPhase, RecoveryState, Replayed, Storing, Waiting, all_complete, append_answered, both_there, completed_by, fence_answered, log_comes, on_recover, recovered_message, replay, requests_come, stored_comes, with_complete}
-use Rattle.curp_law_kept.proofs.NumberedLists.{each_among}
+use Rattle.curp_law_kept.proofs.Gives.{each_among}
 use Rattle.curp_law_served.specs.Recovers.{ComesLog, ComesRequests, CompletesBackup, Fences, AsksToFreeze, GivesLog, GivesRequests, IsGivenLog, PhaseGoes, TellsRecovered}
 use Rattle.curp_law_served.specs.Ways.{Appends, AnswersStored, OnWay, Stores}
 use Rattle.curp_law_served.proofs.Lists.{all_tested, among_first, among_later, among_map, each_of}

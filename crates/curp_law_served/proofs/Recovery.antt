@@ -29,10 +29,8 @@ use Rattle.curp_model.specs.Manager.{ManagerState, Next, install_on, recover_mes
 use Rattle.curp_model.specs.Named.{IsNode, IsNodeOf}
 use Rattle.curp_model.specs.Recovery.{MasterStage, Serving}
 use Rattle.curp_model.specs.World.{Stops, World, deed_of, effect, has_node, is_stopped, kept, messages, moves, result_of, step, steps_by, stops_manager, with_manager}
-use Rattle.curp_law_kept.proofs.WorldsGrow.{step_grows}
-use Rattle.curp_law_kept.proofs.Known.{fits}
-use Rattle.curp_law_kept.proofs.Steps.{known_step}
-use Rattle.curp_law_steps.proofs.Moving.{its_result, stops_only_by_stop}
+use Rattle.curp_law_kept.proofs.Gives.{step_grows, fits, known_step}
+use Rattle.curp_law_steps.proofs.Gives.{its_result, stops_only_by_stop}
 use Rattle.curp_law_served.specs.Renews.{CanRecover, IsSteady, RenewFits, RenewGrounds, Renewing, renewed}
 use Rattle.curp_law_served.proofs.RenewEnds.{renewed_calm}
 use Rattle.curp_law_served.proofs.RenewStarts.{begins_renewal, ordered}

@@ -32,7 +32,7 @@ use Rattle.curp_model.specs.Manager as manager
 use Rattle.curp_model.specs.Manager.{Attempted, Doing, ManagerState, adopted_at, attempt_at, finished, on_manager, on_recovered, part_at, recovered_in, tells_again}
 use Rattle.curp_model.specs.Master.{Acknowledged, Captured, MasterState, Open, Phase, Switching, adopted_in, between, by_message, goes_on, is_ready, last_round, moved_entry, on_appended, on_serving, raised, settle, stored_on, synced, synced_reply, value_of}
 use Rattle.curp_model.specs.Recovery.{Asking, Fresh, Recovering, RecoveryPhase, RecoveryState, Replayed, Serving, Storing, Waiting, append_answered, both_there, completed_by, fence_answered, log_comes, on_master, on_recover, replay, requests_come, stored_comes, with_complete, all_complete}
-use Rattle.curp_law_kept.proofs.NumberedLists.{each_among}
+use Rattle.curp_law_kept.proofs.Gives.{each_among}
 use Rattle.curp_law_served.specs.Renews.{RenewFits, ServesIdle, renewed}
 
 module _ (S : Type 0) (q : ℕ) (o : Recover) (part : o.part ≡ 1) where

@@ -27,8 +27,7 @@ use Rattle.curp_model.specs.Manager.{Next, counter_ends, last_number, recover_or
 use Rattle.curp_model.specs.Named.{IsNodeOf}
 use Rattle.curp_model.specs.Recovery.{Asking, Fresh, Recovering, RecoveryPhase, RecoveryState, Replayed, Serving, Storing, Waiting}
 use Rattle.curp_model.specs.World.{World}
-use Rattle.curp_law_kept.proofs.Known.{fits}
-use Rattle.curp_law_kept.proofs.MastersHeard.{backup_log_ok}
+use Rattle.curp_law_kept.proofs.Gives.{fits, backup_log_ok}
 use Rattle.curp_law_served.proofs.Homes.{backup_there, ordered_backup_home, witness_there}
 use Rattle.curp_law_served.specs.Calm.{IsUndelivered}
 use Rattle.curp_law_served.specs.Recovers.{TellsRecovered}

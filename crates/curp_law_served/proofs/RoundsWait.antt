@@ -13,7 +13,7 @@ use Rattle.curp_msg.specs.declared.body.Body.{Body}
 use Rattle.curp_msg.specs.declared.message.Message.{Message}
 use Rattle.curp_facts.specs.Facts.{IsAmong}
 use Rattle.curp_model.specs.Master.{Captured, MasterState, Queued, all_have, append_to, begins_round, from_backup, fresh_backups, next_round, stored_on, synced}
-use Rattle.curp_law_kept.proofs.NumberedLists.{each_among}
+use Rattle.curp_law_kept.proofs.Gives.{each_among}
 use Rattle.curp_law_served.specs.Ways.{Answers, CaptureGoes, WillCover, Gives, HeldGoes, MasterGoes}
 use Rattle.curp_law_served.specs.Ways.WillCover.{Goes}
 use Rattle.curp_law_served.proofs.Lists.{among_left, among_map, each_of}

@@ -17,9 +17,7 @@ use Rattle.curp_msg.specs.declared.body.Body.TheVariants as body
 use Rattle.curp_msg.specs.declared.message.Message.{Message}
 use Rattle.curp_facts.specs.Facts.{IsAmong}
 use Rattle.curp_model.specs.Master.{Acknowledged, Captured, MasterState, Open, Phase, answer_at, between, fresh_backups, from_backup, goes_on, is_ready, moved_entry, on_appended, on_stored, raised, reply, settle, stored_on, synced, synced_replies, synced_reply, value_of}
-use Rattle.curp_law_kept.proofs.NumberedLists.{each_among}
-use Rattle.curp_law_kept.proofs.MasterLists.{each_filtered}
-use Rattle.curp_law_kept.proofs.Settled.{settled_state}
+use Rattle.curp_law_kept.proofs.Gives.{each_among, each_filtered, settled_state}
 use Rattle.curp_law_served.specs.Ways.{Answers, Appends, CaptureGoes, Covered, WillCover, Gives, HeldGoes, IsCaptured, IsHeldFor, AnswersStored, MasterGoes, OnWay, Stores, SyncedReply, ValueOf}
 use Rattle.curp_law_served.specs.Ways.WillCover.{Comes, Goes, Known}
 use Rattle.curp_law_served.proofs.Acks.{raised_own, raised_rises}

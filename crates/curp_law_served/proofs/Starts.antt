@@ -38,8 +38,8 @@ use Rattle.curp_model.specs.Master.{MasterState, Open, Phase, Switching, begins_
 use Rattle.curp_model.specs.Ranges.{owns_all}
 use Rattle.curp_model.specs.Recovery.{MasterStage, Serving, master_input, master_ordered}
 use Rattle.curp_model.specs.World.{World, Deed, Gives, deed_of, messages, moves, moves_one, result_of, step, steps_by, with_client, with_master}
-use Rattle.curp_law_steps.proofs.Moving.{its_result}
-use Rattle.curp_law_kept.proofs.NumberedLists.{each_among}
+use Rattle.curp_law_steps.proofs.Gives.{its_result}
+use Rattle.curp_law_kept.proofs.Gives.{each_among}
 use Rattle.curp_law_served.specs.Calm.{Calm, IsUndelivered, IsAwaited, FitsIn, NoGap}
 use Rattle.curp_law_served.specs.Ways.{EarlyReply, PendingGoes, PendsOne, Reads, GetsRecorded, Syncs, Updates}
 use Rattle.curp_law_served.proofs.Fits.{BeginsAt, Said, round_of}

@@ -22,7 +22,7 @@ use Rattle.curp_model.specs.Master.{MasterState, on_serving}
 use Rattle.curp_model.specs.Recovery.{MasterStage, Serving, master_input, on_master}
 use Rattle.curp_model.specs.Witness.{WitnessState, on_witness, witness_input}
 use Rattle.curp_model.specs.World.{World, Deed, Gives, deed_of, delivery, messages, moves, result_of, moves_one, step, steps_by, with_backup, with_batch, with_client, with_manager, with_master, with_witness}
-use Rattle.curp_law_steps.proofs.Moving.{its_result}
+use Rattle.curp_law_steps.proofs.Gives.{its_result}
 use Rattle.curp_law_served.specs.Calm.{IsUndelivered}
 
 -- the world has moved by a message

@@ -13,8 +13,7 @@ use Rattle.curp_msg.specs.declared.script.Step.TheVariants as steps
 use Rattle.curp_facts.specs.Known.{Known}
 use Rattle.curp_msg.specs.Script.{IsHeader}
 use Rattle.curp_model.specs.World.{World, messages, opening, run, step, weight, world}
-use Rattle.curp_law_kept.proofs.Steps.{known_opening, known_step}
-use Rattle.curp_law_kept.proofs.WorldsGrow.{step_grows}
+use Rattle.curp_law_kept.proofs.Gives.{known_opening, known_step, step_grows}
 use Rattle.curp_base.proofs.Lists.{prefix_length}
 use Rattle.curp_law_served.specs.Served.{AnsweredRequest, Served, Limit, TooLarge, TooManySteps, after_all, and_then, answer_by, delivers, header_of, is_busy, makes, most_steps, quiets, quiets_in, stepped}
 use Rattle.curp_law_served.proofs.Followed.{Follows, IsServedStep, follows_opening, follows_step}

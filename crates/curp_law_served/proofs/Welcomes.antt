@@ -15,8 +15,7 @@ use Rattle.curp_facts.specs.ClientNumbers.{IsUncompleted, ClientNumbersOk}
 use Rattle.curp_facts.specs.Kept.{HasCompletedBelow}
 use Rattle.curp_facts.specs.Nodes.{ServingOk}
 use Rattle.curp_facts.specs.Reach.{Tells}
-use Rattle.curp_law_kept.proofs.Noted.{known_stands}
-use Rattle.curp_law_kept.proofs.Completed.{stale_completed}
+use Rattle.curp_law_kept.proofs.Gives.{known_stands, stale_completed}
 use Rattle.curp_model.specs.declared.Check.{Check}
 use Rattle.curp_model.specs.declared.Check.TheVariants.{Expired, Stale, Known, New}
 use Rattle.curp_model.specs.Client.{ClientState, Pending}

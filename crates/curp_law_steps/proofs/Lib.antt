@@ -1,14 +1,15 @@
-pub mod Events
-pub mod Moving
-pub mod Results
-pub mod Searches
-pub mod Orders
-pub mod Verdicts
-pub mod Inputs
-pub mod Numbers
-pub mod Deliveries
-pub mod AnyOrder
-pub mod Trips
-pub mod Apart
-pub mod OpeningOwners
-pub mod Opening
+pub mod Gives
+mod Events
+mod Moving
+mod Results
+mod Searches
+mod Orders
+mod Verdicts
+mod Inputs
+mod Numbers
+mod Deliveries
+mod AnyOrder
+mod Trips
+mod Apart
+mod OpeningOwners
+mod Opening

@@ -1,7 +1,8 @@
-pub mod Expiring
-pub mod ByKind
-pub mod Moves
-pub mod Openings
-pub mod Shown
-pub mod Turns
-pub mod Weaving
+pub mod Gives
+mod Expiring
+mod ByKind
+mod Moves
+mod Openings
+mod Shown
+mod Turns
+mod Weaving

@@ -26,10 +26,9 @@ use Rattle.curp_model.specs.World.{Deed, Gives, Stepped, Stops, World, deed_of, 
 use Rattle.curp_msg.specs.Limits.{weight_limit}
 use Rattle.curp_model.proofs.Batches.{all_of-kept}
 use Rattle.curp_law_kept.specs.After.{After, ClientStays, ClientMoves, MasterStays, MasterMoves, MasterNew, BackupStays, BackupMoves, BackupNew, WitnessStays, WitnessMoves, WitnessNew}
-use Rattle.curp_law_kept.proofs.After.{step_after}
+use Rattle.curp_law_kept.proofs.Gives.{step_after}
 use Rattle.curp_law_steps.specs.Named.{StopsNone}
-use Rattle.curp_law_steps.proofs.Moving.{OnlyMoves, Spares, only_moves, stops_only_by_stop}
-use Rattle.curp_law_steps.proofs.Results.{done}
+use Rattle.curp_law_steps.proofs.Gives.{OnlyMoves, Spares, only_moves, stops_only_by_stop, done}
 use Rattle.curp_law_weave.specs.NodeStates.{ABackup, AClient, AManager, AMaster, AWitness, NodeState, fresh_state, machine_by, machine_of, state_by, state_of}
 
 -- ---- options

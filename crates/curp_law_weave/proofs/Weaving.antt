@@ -31,10 +31,7 @@ use Rattle.curp_model.specs.World.{Gives, Stepped, Stops, World, deed_by, deed_o
 use Rattle.curp_msg.specs.Limits.{weight_limit}
 use Rattle.curp_msg.specs.Script.{IsHeader}
 use Rattle.curp_facts.specs.Fits.{IsBetweenNodes}
-use Rattle.curp_law_kept.proofs.Laws.{only_sent_to_nodes}
-use Rattle.curp_law_kept.proofs.OpenedNames.{opening_names, opening_nodes}
-use Rattle.curp_law_kept.proofs.OthersNames.{Both}
-use Rattle.curp_law_kept.proofs.Runs.{step_goes}
+use Rattle.curp_law_kept.proofs.Gives.{only_sent_to_nodes, opening_names, opening_nodes, Both, step_goes}
 use Rattle.curp_journal.specs.Given.{given}
 use Rattle.curp_journal.specs.Journal.{IsJournal, after, last_stamp}
 use Rattle.curp_journal.specs.Own.{IsArrivedMessage}

@@ -12,7 +12,7 @@ use Rattle.curp_journal.specs.Journal.{NodeJournal}
 use Rattle.curp_model.specs.Client.{ClientState}
 use Rattle.curp_model.specs.World.{opening}
 use Rattle.curp_journal.specs.Work.{DidWork, orders_to, recoveries_among}
-use Rattle.curp_law_weave.proofs.Shown.{completed_are, invocations_are, items_recover, orders_are, recoveries_are, stopped_are}
+use Rattle.curp_law_weave.proofs.Gives.{completed_are, invocations_are, items_recover, orders_are, recoveries_are, stopped_are}
 use Rattle.curp_law_weave.specs.Run.{StopsEnded}
 use Rattle.curp_gather.specs.Journals.{IsClientJournal, IsScriptOf, journal_of, journals_of}
 use Rattle.curp_gather.specs.declared.journals.Journals.{Journals}

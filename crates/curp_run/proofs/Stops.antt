@@ -11,7 +11,7 @@ use Rattle.curp_msg.specs.declared.script.Step.TheVariants.{Collect, Deliver, Ex
 use Rattle.curp_model.specs.World.{World, has_node, step}
 use Rattle.curp_script.specs.Printed.{NamesNode}
 use Rattle.curp_journal.specs.Turns.{Placed}
-use Rattle.curp_law_steps.proofs.Results.{done, result}
+use Rattle.curp_law_steps.proofs.Gives.{done, result}
 use Rattle.curp_law_weave.specs.Run.{Runs}
 
 -- a node that is there and isn't the manager has a number from 1 on

@@ -9,7 +9,7 @@ use Rattle.curp_msg.specs.declared.script.Step.{Step}
 use Rattle.curp_msg.specs.declared.script.Step.TheVariants as steps
 use Rattle.curp_model.specs.World.{Stepped, step}
 use Rattle.curp_law_served.specs.Served.{Limit, Served, TooManySteps, after_all, and_then, delivers, if_turn, is_busy, makes, most_steps, newest, quiets, quiets_in, replaces_master, stepped, tidies, with_quieting}
-use Rattle.curp_law_served.proofs.Turns.{length_push}
+use Rattle.curp_law_served.proofs.Gives.{length_push}
 
 -- a state that others lead to
 pub record GoesOn (s t : Served) : Type 0 where

@@ -8,7 +8,7 @@ use Rattle.curp_msg.specs.declared.script.Header.{Header}
 use Rattle.curp_msg.specs.declared.script.Step.{Step}
 use Rattle.curp_msg.specs.Script.{IsHeader, IsRun, IsStep}
 use Rattle.curp_law_linear.specs.Line.{StandsIn}
-use Rattle.curp_law_linear.proofs.Growing.{stands_self}
+use Rattle.curp_law_linear.proofs.Gives.{stands_self}
 use Rattle.curp_law_linear.specs.Grows.{completed_in_order}
 use Rattle.curp_script.specs.declared.error.FieldName.{FieldName}
 use Rattle.curp_model.specs.World.{Stepped, World, step, run, opening, result_of, world}

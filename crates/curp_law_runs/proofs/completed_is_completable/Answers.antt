@@ -1,4 +1,4 @@
-use Rattle.curp_law_kept.proofs.Steps.{known_all}
+use Rattle.curp_law_kept.proofs.Gives.{known_all}
 use Rattle.curp_law_runs.proofs.Completed.{completed_read, completed_update}
 use Rattle.curp_law_runs.proofs.ByOne.{by_one_all, only_by_value}
 use Rattle.curp_law_runs.proofs.completed_is_completable.Goals as goal

@@ -1,5 +1,5 @@
 use Rattle.curp_model.specs.World.{world}
-use Rattle.curp_law_kept.proofs.Steps.{known_all}
+use Rattle.curp_law_kept.proofs.Gives.{known_all}
 use Rattle.curp_law_runs.proofs.Apart.{brought_apart, known_apart}
 use Rattle.curp_law_runs.proofs.known_witnesses_differ.Goals as goal
 

@@ -1,5 +1,5 @@
 use Rattle.curp_model.specs.World.{world}
-use Rattle.curp_law_kept.proofs.Laws.{answers_go_home, nodes_kept, only_sent_to_nodes}
+use Rattle.curp_law_kept.proofs.Gives.{answers_go_home, nodes_kept, only_sent_to_nodes}
 use Rattle.curp_law_runs.proofs.only_sent_to_nodes.Goals as goal
 
 pub returns : goal.returns

@@ -1,5 +1,5 @@
 use Rattle.curp_model.specs.World.{world}
-use Rattle.curp_law_kept.proofs.Steps.{known_all}
+use Rattle.curp_law_kept.proofs.Gives.{known_all}
 use Rattle.curp_law_runs.proofs.Silence.{is_silent}
 use Rattle.curp_law_runs.proofs.silent_while_switching.Goals as goal
 
