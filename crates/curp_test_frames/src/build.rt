@@ -49,7 +49,14 @@ pub(crate) fn held<T: Drop>(rt: &impl Abort, alloc: Global, value: T) -> Shared<
     Shared::new(alloc, value).ok().expect(rt, "no memory")
 }
 
-fn ascending<K: Ord + Drop, V: Drop>(rt: &impl Abort, pairs: Vec<(K, V)>) -> AscendingPairs<K, V> {
+pub(crate) fn share<T: Drop>(rt: &impl Abort, held: &Shared<T>) -> Shared<T> {
+    held.share().expect(rt, "no memory")
+}
+
+pub(crate) fn ascending<K: Ord + Drop, V: Drop>(
+    rt: &impl Abort,
+    pairs: Vec<(K, V)>,
+) -> AscendingPairs<K, V> {
     assert!(rt; pairs_ascend(&pairs));
     AscendingPairs::new(pairs)
 }
@@ -80,7 +87,7 @@ pub(crate) fn message(body: Body) -> Message {
     }
 }
 
-fn request(command: Command) -> Request {
+pub(crate) fn request(command: Command) -> Request {
     Request {
         id: ID,
         first: 2,
@@ -90,6 +97,19 @@ fn request(command: Command) -> Request {
 
 pub(crate) fn shared(rt: &impl Abort, alloc: Global, command: Command) -> Shared<Request> {
     held(rt, alloc, request(command))
+}
+
+/// Four keys of 32 bytes, each with that value. With 128 bytes of it this is the largest command.
+pub(crate) fn largest(rt: &impl Abort, value: Value) -> Command {
+    multi(
+        rt,
+        &[
+            (key(rt, &[1; 32]), value),
+            (key(rt, &[2; 32]), value),
+            (key(rt, &[3; 32]), value),
+            (key(rt, &[4; 32]), value),
+        ],
+    )
 }
 
 /// Two records, a first number, and two expired clients.
@@ -130,7 +150,7 @@ pub(crate) fn no_package(rt: &impl Abort, alloc: Global) -> Shared<Package> {
 }
 
 /// The operation of that request.
-fn op_of(rt: &impl Abort, alloc: Global, request: Request, acknowledge: u32) -> Entry {
+pub(crate) fn op_of(rt: &impl Abort, alloc: Global, request: Request, acknowledge: u32) -> Entry {
     Entry::Op {
         request: held(rt, alloc, request),
         acknowledge,

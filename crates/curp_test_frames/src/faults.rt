@@ -1,6 +1,6 @@
 //! Frames that are none, each with the first thing that is wrong with it and its place, told by hand.
 
-use crate::frames::fault_of;
+use crate::calls::fault_of;
 use crate::hex::bytes_of;
 use crate::holds::must_hold;
 use curp_wire::FrameError;

@@ -1,6 +1,6 @@
 //! Frames of messages that aren't light, written by hand, and messages that have none.
 
-use crate::frames::{frame_of, is_light_message, message_in, refusal_of};
+use crate::calls::{frame_of, is_light_message, message_in, refusal_of};
 use crate::hex::bytes_of;
 use crate::holds::must_hold;
 use curp_cmd::NodeId;

@@ -3,7 +3,7 @@
 use crate::build::{
     add, ascending, boxed, held, key, largest, message, op_of, request, share, value,
 };
-use crate::frames::{frame_of, is_light_message, reads};
+use crate::calls::{frame_of, is_light_message, reads};
 use curp_base::Items;
 use curp_cmd::{Command, Entry, Key, Package, Request, RequestId, TablePart, Value};
 use curp_msg::{Append, Body, Message, Parcel};
