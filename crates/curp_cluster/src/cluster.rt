@@ -15,7 +15,7 @@ use curp_line::Line;
 use curp_msg::{Config, Done, Header, Local, Message, Outcome, Step, StepResult, WEIGHT_LIMIT};
 use curp_nodes::ClientNode;
 use curp_order::History;
-use curp_sent::{Place, Sent, Stopped, answered, order_of};
+use curp_sent::{MessagePlace, SentMessages, Stopped, answered, order_of};
 use std::alloc::Global;
 use std::marker::Model;
 
@@ -24,7 +24,7 @@ pub struct Cluster {
     alloc: Global,
     nodes: Nodes,
     stopped: Stopped,
-    sent: Sent,
+    sent: SentMessages,
     history: History,
     marks: Line,
     // Places for the commands that a step marks, and for the one that it invokes.
@@ -66,7 +66,7 @@ impl Cluster {
             alloc,
             nodes: Nodes::new(alloc, header)?,
             stopped: Stopped::new(alloc),
-            sent: Sent::new(alloc),
+            sent: SentMessages::new(alloc),
             history: History::new(alloc),
             marks: Line::new(alloc),
             marking: Standby::new(alloc),
@@ -181,7 +181,7 @@ impl Cluster {
     }
 
     // Whom the message of that place goes to.
-    fn addressee(&self, place: &Place) -> Option<NodeId>
+    fn addressee(&self, place: &MessagePlace) -> Option<NodeId>
         ensures { result ≡ option_map (λ m. m.to) (numbered (world.messages self.now) place.now) }
     {
         self.sent.get_at(place).map(|message| message.to)
@@ -269,7 +269,7 @@ impl Cluster {
 }
 
 // What a node is given, by what it is to get.
-fn given_of<'a>(sent: &'a Sent, gift: &'a Gift) -> Given<'a>
+fn given_of<'a>(sent: &'a SentMessages, gift: &'a Gift) -> Given<'a>
     requires { IsSome (input_in (all_of sent.now.lists) gift.now) }
     ensures { input_in (all_of sent.now.lists) gift.now ≡ Some (input_of result) }
 {
@@ -284,7 +284,7 @@ fn given_of<'a>(sent: &'a Sent, gift: &'a Gift) -> Given<'a>
 
 // What a node did on an input is kept, behind an invocation where it was one.
 fn keep(
-    sent: &mut Sent,
+    sent: &mut SentMessages,
     history: &mut History,
     invoked: Option<(RequestId, KeptCommand)>,
     done: Done,

@@ -4,12 +4,12 @@ ghost use Rattle.curp_cluster.specs.Given.{input_of};
 
 use curp_base::NoMemory;
 use curp_msg::{Core, Done, Local, Message};
-use curp_sent::Place;
+use curp_sent::MessagePlace;
 
 /// What a node is to get: the message of that place, or an order.
 #[derive(Drop)]
 pub(crate) enum Gift {
-    Message(Place),
+    Message(MessagePlace),
     Order(Local),
 }
 

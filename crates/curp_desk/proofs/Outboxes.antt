@@ -1,4 +1,4 @@
--- An outbox as steps are made and parcels are taken.
+-- An outbox as steps are made and envelopes are taken.
 use Rattle.std.proofs.Common.{◌≡◌, ◌≤◌, ◌⊎◌, ⊎_elim, Option, Some, None, is_some, ℕ, zero, suc, ◌+◌, Bool, true, false, true≢false, List, [], ◌∷◌, ◌++◌, map, length, take, refl, ap, sym, ◌∙◌, subst, arith, append_assoc, append-nil, length-append}
 use Rattle.std.proofs.lemmas.List.{map-append, take-append-le, take_all}
 use Rattle.std.specs.Prelude.{option_to_list}

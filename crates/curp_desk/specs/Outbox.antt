@@ -20,7 +20,7 @@ all_sent from step (item ∷ items) = named_of from step item.stamp 1 item.done.
 abbrev pub out_of : ℕ → Named → Out
 out_of number named = record {
   to = named.message.to;
-  parcel = record { sender = number; carries = Some (arrived.Message named) };
+  envelope = record { sender = number; carries = Some (arrived.Message named) };
 }
 
 -- what is heard of a step that made that item of what came

@@ -11,8 +11,8 @@ use std::thread;
 use std::thread::{Scope, Threads};
 
 /// What a worker does: it takes what comes to its node, until it has an end of each sender.
-pub trait Work: Sized {
-    fn work<R: Wait>(self, rt: &R, take: Take);
+pub trait Serve: Sized {
+    fn serve<R: Wait>(self, rt: &R, take: Take);
 }
 
 /// What a courier does: it sends what its node puts out, and then an end to each inbox.
@@ -60,9 +60,9 @@ trait Job: Sized {
     fn act<R: Wait>(self, rt: &R);
 }
 
-impl<W: Work> Job for AtWork<W> {
+impl<W: Serve> Job for AtWork<W> {
     fn act<R: Wait>(self, rt: &R) {
-        self.worker.work(rt, self.take);
+        self.worker.serve(rt, self.take);
     }
 }
 
@@ -80,7 +80,7 @@ impl<C: Carry> Job for OnErrand<C> {
 /// answer is the same as after running out of memory.
 pub fn run_crew<
     R: Threads + Wait + Sync,
-    W: Work + Send + Drop,
+    W: Serve + Send + Drop,
     C: Carry + Send + Drop,
     D: Drive + Drop,
 >(rt: &R, alloc: Global, room: u32, members: Vec<Member<W, C>>, driver: D) -> Result<(), NoMemory>
@@ -140,7 +140,7 @@ impl<W: Drop, C: Drop> Crew<W, C> {
     }
 }
 
-impl<W: Work + Send + Drop, C: Carry + Send + Drop> Crew<W, C> {
+impl<W: Serve + Send + Drop, C: Carry + Send + Drop> Crew<W, C> {
     /// All workers are made before any courier. So where a worker can't be made, nothing was sent yet; and where a courier
     /// can't be made, all inboxes are emptied. Whoever isn't made has its ends sent here.
     fn run<R: Threads + Wait + Sync, D: Drive + Drop>(

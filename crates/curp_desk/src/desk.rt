@@ -5,7 +5,7 @@ use crate::{Listener, MadeStep, Posts};
 use curp_base::NoMemory;
 use curp_journal::Arrived;
 use curp_msg::Core;
-use curp_ruled::{Parcel, Take};
+use curp_ruled::{Envelope, Take};
 use curp_seat::{Chores, Kept, Observer};
 use std::alloc::Global;
 use std::sync::{Condvar, Mutex, Wait};
@@ -40,7 +40,7 @@ impl<N: Core + Drop> Desk<N> {
         }
     }
 
-    /// Takes parcels and makes the steps that they ask for, each followed by those of the orders that are due then, until
+    /// Takes envelopes and makes the steps that they ask for, each followed by those of the orders that are due then, until
     /// it has an end of each sender. The node ends with the end of the driver, who is the last of them: what comes after
     /// that is dropped, as it is after running out of memory.
     pub fn work<R: Wait, G: Observer, C: Chores + Drop, L: Listener>(
@@ -58,15 +58,15 @@ impl<N: Core + Drop> Desk<N> {
             if left == 0 {
                 break;
             }
-            let parcel = take.receive(rt);
-            if parcel.is_end() {
+            let envelope = take.receive(rt);
+            if envelope.is_end() {
                 left -= 1;
-                if parcel.sender() == driver {
+                if envelope.sender() == driver {
                     works = false;
                     self.end(rt);
                 }
             } else if works {
-                works = self.turn(rt, observer, &mut chores, listener, parcel);
+                works = self.turn(rt, observer, &mut chores, listener, envelope);
             }
         }
     }
@@ -74,10 +74,10 @@ impl<N: Core + Drop> Desk<N> {
     /// Sends what is put out, in its order, until the node has ended and nothing is left, and then an end to each inbox.
     pub fn carry<R: Wait>(&self, rt: &R, mut posts: Posts) {
         for _ in rt.forever() {
-            let Some(Out { to, parcel }) = self.next(rt) else {
+            let Some(Out { to, envelope }) = self.next(rt) else {
                 break;
             };
-            posts.send(rt, to, parcel);
+            posts.send(rt, to, envelope);
         }
         posts.end_all(rt);
     }
@@ -94,7 +94,7 @@ impl<N: Core + Drop> Desk<N> {
         inside.into_inner().into_kept()
     }
 
-    /// Makes the steps that are due before the first parcel. False where there was no memory.
+    /// Makes the steps that are due before the first envelope. False where there was no memory.
     fn begin<R: Wait, G: Observer, C: Chores, L: Listener>(
         &self,
         rt: &R,
@@ -106,32 +106,32 @@ impl<N: Core + Drop> Desk<N> {
         goes_on(rt, listener, made)
     }
 
-    /// Makes the step that a parcel asks for, and those that are due then. False where there was no memory.
+    /// Makes the step that an envelope asks for, and those that are due then. False where there was no memory.
     fn turn<R: Wait, G: Observer, C: Chores, L: Listener>(
         &self,
         rt: &R,
         observer: &G,
         chores: &mut C,
         listener: &L,
-        parcel: Parcel,
+        envelope: Envelope,
     ) -> bool
-        requires { parcel.carries ≢ None }
+        requires { envelope.carries ≢ None }
     {
-        let made = self.give_parcel(rt, observer, chores, listener, parcel);
+        let made = self.give_envelope(rt, observer, chores, listener, envelope);
         goes_on(rt, listener, made)
     }
 
-    fn give_parcel<R: Wait, G: Observer, C: Chores, L: Listener>(
+    fn give_envelope<R: Wait, G: Observer, C: Chores, L: Listener>(
         &self,
         rt: &R,
         observer: &G,
         chores: &mut C,
         listener: &L,
-        parcel: Parcel,
+        envelope: Envelope,
     ) -> Result<(), NoMemory>
-        requires { parcel.carries ≢ None }
+        requires { envelope.carries ≢ None }
     {
-        let input = parcel.open(self.alloc)?;
+        let input = envelope.open(self.alloc)?;
         self.give(rt, observer, chores, listener, input)?;
         self.give_due(rt, observer, chores, listener)
     }

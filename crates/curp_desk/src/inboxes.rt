@@ -6,7 +6,7 @@ use curp_cmd::NodeId;
 use curp_ruled::{Post, Take, inbox};
 use std::alloc::{AllocError, Global};
 
-/// The room of an inbox in a run, in parcels. Any other room would do.
+/// The room of an inbox in a run, in envelopes. Any other room would do.
 pub const ROOM: u32 = 1_024;
 
 /// The ends of all inboxes of a run.

@@ -8,17 +8,17 @@ use curp_base::NoMemory;
 use curp_cmd::{NodeId, RequestId};
 use curp_journal::{Arrived, Named};
 use curp_msg::{Completed, Core};
-use curp_ruled::Parcel;
+use curp_ruled::Envelope;
 use curp_seat::{Kept, Observer, Running, Took};
 use std::alloc::{AllocError, Global};
 use std::collections::VecDeque;
 use std::marker::Model;
 
-/// A made parcel, and the node that it is for.
+/// A made envelope, and the node that it is for.
 #[derive(Drop)]
 pub(crate) struct Out {
     pub to: NodeId,
-    pub parcel: Parcel,
+    pub envelope: Envelope,
 }
 
 /// What lies under a desk's lock.
@@ -198,6 +198,6 @@ fn out_of(alloc: Global, number: u32, named: Named) -> Result<Out, NoMemory>
     let to = named.message.to;
     Ok(Out {
         to,
-        parcel: Parcel::new(alloc, number, Arrived::Message(named))?,
+        envelope: Envelope::new(alloc, number, Arrived::Message(named))?,
     })
 }

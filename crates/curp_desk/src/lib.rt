@@ -3,11 +3,11 @@
 //! - A `Desk` is a node with its journal and an outbox, under one lock. No clause can say what lies under a lock: what
 //!   holds is the invariant of the type there. By it the journal, replayed, gives the node and all that it did (`Running`),
 //!   and the outbox holds just what the journal's items sent and the courier hasn't taken, each once and in order, as
-//!   parcels with the node's number (`IsOutbox`).
-//! - A node has a worker, who takes parcels from the inbox and makes steps, those that its `Chores` order among them, and
+//!   envelopes with the node's number (`IsOutbox`).
+//! - A node has a worker, who takes envelopes from the inbox and makes steps, those that its `Chores` order among them, and
 //!   a courier, who sends what they put out. A worker never sends, and no lock is held over a send, a receive or a wait for
 //!   another thread; so full inboxes can't make all threads wait for each other, by whatever room they have.
-//! - `Posts` are all ends of one sender. Each gets exactly one end, as its last parcel: sending it uses the post up.
+//! - `Posts` are all ends of one sender. Each gets exactly one end, as its last envelope: sending it uses the post up.
 //! - `run_crew` runs nodes with an inbox for each: workers and couriers on threads of their own, the driver on the calling
 //!   one. Where a thread can't be made, those that were made get the ends that they wait for.
 #![tactic(auto)]
@@ -19,7 +19,7 @@ mod inside;
 mod listener;
 mod posts;
 
-pub use crew::{Carry, Drive, Member, Work, run_crew};
+pub use crew::{Carry, Drive, Member, Serve, run_crew};
 pub use desk::Desk;
 pub use inboxes::ROOM;
 pub use listener::{Listener, MadeStep};

@@ -1,6 +1,6 @@
 use curp_base::NoMemory;
 use curp_cmd::{NodeId, NodeKind};
-use curp_ruled::{Parcel, Post};
+use curp_ruled::{Envelope, Post};
 use std::alloc::Global;
 use std::sync::Wait;
 
@@ -53,12 +53,12 @@ impl Posts {
         Ok(())
     }
 
-    /// Puts a parcel of this sender into the inbox of a node, and waits for room there. One to a node that has no inbox, or
+    /// Puts an envelope of this sender into the inbox of a node, and waits for room there. One to a node that has no inbox, or
     /// that got the end, is lost.
-    pub fn send<R: Wait>(&mut self, rt: &R, to: NodeId, parcel: Parcel) {
+    pub fn send<R: Wait>(&mut self, rt: &R, to: NodeId, envelope: Envelope) {
         if let Some(Some(post)) = self.slot(to) {
-            if post.number() == parcel.sender() {
-                post.send(rt, parcel);
+            if post.number() == envelope.sender() {
+                post.send(rt, envelope);
             }
         }
     }
@@ -120,5 +120,5 @@ fn end_each<R: Wait>(rt: &R, slots: Vec<Option<Post>>) {
 /// The post is used up: its end is the last that it sends.
 fn send_end<R: Wait>(rt: &R, mut post: Post) {
     let number = post.number();
-    post.send(rt, Parcel::end(number));
+    post.send(rt, Envelope::end(number));
 }

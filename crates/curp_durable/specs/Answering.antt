@@ -10,8 +10,8 @@ use Rattle.curp_msg.specs.declared.machine.Input.{Input}
 use Rattle.curp_durable.specs.Journal.{HasEncoding, framed}
 use Rattle.curp_durable.specs.Standing.{Standing, answers_of, taken}
 use Rattle.curp_durable.specs.Value.{DurableParts}
-use Rattle.curp_durable.specs.declared.deciding.Stopped.{Stopped}
-use Rattle.curp_durable.specs.declared.deciding.Stopped.TheVariants as stopped
+use Rattle.curp_durable.specs.declared.deciding.Undecided.{Undecided}
+use Rattle.curp_durable.specs.declared.deciding.Undecided.TheVariants as stopped
 use Rattle.curp_durable.specs.declared.error.DurableError.{DurableError}
 use Rattle.curp_durable.specs.declared.error.DurableError.TheVariants as durable
 use Rattle.curp_durable.specs.declared.stand.Answered.{Answered}
@@ -50,7 +50,7 @@ Declines commit size_limit inputs durable.DiskFault = ⊥
 Declines commit size_limit inputs durable.Spent = ⊥
 
 -- why nothing was decided: the node stands where it stood, or the memory ran out when it was asked
-abbrev pub Stops : {N : Type 0} → (old new : Standing N) → (commit size_limit : ℕ) → List Arrived → Stopped → Type 0
+abbrev pub Stops : {N : Type 0} → (old new : Standing N) → (commit size_limit : ℕ) → List Arrived → Undecided → Type 0
 Stops old new commit size_limit inputs (stopped.Unchanged why) = (new ≡ old) × Declines commit size_limit inputs why
 Stops old new commit size_limit inputs stopped.Moved = HasEncoding inputs
 

@@ -9,9 +9,9 @@ use Rattle.curp_durable.specs.Journal.{Batch, HasEncoding, IsDamaged, IsNotForma
 use Rattle.curp_durable.specs.Standing.{Standing, after, begun}
 use Rattle.curp_durable.specs.declared.error.OpenError.{OpenError}
 use Rattle.curp_durable.specs.declared.error.OpenError.TheVariants as opened
-use Rattle.curp_durable.specs.declared.opening.Found.{Found}
-use Rattle.curp_durable.specs.declared.opening.Next.{Next}
-use Rattle.curp_durable.specs.declared.opening.Next.TheVariants as next
+use Rattle.curp_durable.specs.declared.opening.FoundBatch.{FoundBatch}
+use Rattle.curp_durable.specs.declared.opening.AtCommit.{AtCommit}
+use Rattle.curp_durable.specs.declared.opening.AtCommit.TheVariants as next
 
 -- ---- one record
 
@@ -44,13 +44,13 @@ pub record FindsPiece (bytes : List ℕ) (len : ℕ) : Type 0 where
   pub small : len < 2 ^ 32
 
 -- what stands at the start of bytes
-abbrev pub FindsNext : List ℕ → Next → Type 0
+abbrev pub FindsNext : List ℕ → AtCommit → Type 0
 FindsNext bytes next.Shut = FindsShut bytes
 FindsNext bytes (next.Piece len) = FindsPiece bytes len
 FindsNext bytes next.Cut = FindsNone bytes
 
 -- the batch that stands at a commit byte, and where the next commit byte stands
-abbrev pub FindsBatch : List ℕ → ℕ → Option Found → Type 0
+abbrev pub FindsBatch : List ℕ → ℕ → Option FoundBatch → Type 0
 FindsBatch content commit None = FindsShut (drop commit content)
 FindsBatch content commit (Some found) = (step : ℕ) × FindsRecord (drop commit content) found.batch.items step × (found.behind ≡ commit + step)
 

@@ -21,7 +21,7 @@ pub(crate) struct Decided {
 
 /// Why nothing is decided.
 #[derive(Clone, Copy, Debug, PartialEq, Eq)]
-pub(crate) enum Stopped {
+pub(crate) enum Undecided {
     /// Before the node was asked.
     Unchanged(DurableError),
     /// Memory ran out once it was asked.
@@ -85,7 +85,7 @@ pub(crate) fn decide<N: Core>(
     commit: u64,
     size_limit: u64,
     inputs: Vec<Arrived>,
-) -> Result<Decided, Stopped>
+) -> Result<Decided, Undecided>
     ensures decides { IfOk result (λ d. Decides N.machine stand.old commit size_limit inputs.items d.piece.items
         d.answers.items) }
     ensures nothing { IfOk result (λ d. taken N.machine stand.old inputs.items ≡ [] → d.piece.items ≡ []) }
@@ -95,11 +95,11 @@ pub(crate) fn decide<N: Core>(
 {
     let piece = match record_of(alloc, commit, size_limit, &inputs) {
         Ok(piece) => piece,
-        Err(why) => return Err(Stopped::Unchanged(why)),
+        Err(why) => return Err(Undecided::Unchanged(why)),
     };
     let count = inputs.len();
     let Ok(answers) = stand.step_all(alloc, inputs) else {
-        return Err(Stopped::Moved);
+        return Err(Undecided::Moved);
     };
     let made = count_made(&answers);
     if made == 0 {
@@ -111,7 +111,7 @@ pub(crate) fn decide<N: Core>(
     }
     match record_again(alloc, commit, size_limit, &answers) {
         Ok(piece) => Ok(Decided { piece, answers }),
-        Err(_) => Err(Stopped::Moved),
+        Err(_) => Err(Undecided::Moved),
     }
 }
 

@@ -11,7 +11,7 @@ ghost use Rattle.curp_durable.specs.Opening.{Exists, IsOfTheMoment, IsOnlyCause,
 ghost use Rattle.curp_durable.specs.Running.{AllMade, RanUntil, calls_for, commit_behind};
 ghost use Rattle.curp_durable.specs.Standing.{after, answers_of, stepped, taken};
 
-use crate::deciding::{Stopped, decide};
+use crate::deciding::{Undecided, decide};
 use crate::error::{DurableError, OpenError};
 use crate::opening::recover;
 use crate::stand::{Answered, Stand, done_in};
@@ -160,8 +160,8 @@ impl<N: Core + Drop, D: Disk> Durable<N, D> {
                     }
                 }
             }
-            Err(Stopped::Unchanged(why)) => Err(why),
-            Err(Stopped::Moved) => {
+            Err(Undecided::Unchanged(why)) => Err(why),
+            Err(Undecided::Moved) => {
                 self.spent = true;
                 Err(DurableError::NoMemory)
             }

@@ -16,14 +16,14 @@ use std::alloc::Global;
 
 /// A batch behind an open commit byte, and where the next commit byte stands.
 #[derive(Drop)]
-pub(crate) struct Found {
+pub(crate) struct FoundBatch {
     batch: Vec<Arrived>,
     behind: usize,
 }
 
 /// What stands at a commit byte.
 #[derive(Clone, Copy, Debug, PartialEq, Eq)]
-pub(crate) enum Next {
+pub(crate) enum AtCommit {
     Shut,
     /// An open commit byte, with a length behind it, and so many bytes and more.
     Piece { length: usize },
@@ -32,7 +32,7 @@ pub(crate) enum Next {
 }
 
 /// What stands at the start of bytes, of which the first is a commit byte.
-fn next_in(bytes: &[u8]) -> Next
+fn next_in(bytes: &[u8]) -> AtCommit
     requires { 0 < length bytes.now }
     ensures { FindsNext bytes.now result }
 {
@@ -40,18 +40,18 @@ fn next_in(bytes: &[u8]) -> Next
         [1, a, b, c, d, rest @ ..] => {
             let length = u32::from_be_bytes([*a, *b, *c, *d]) as usize;
             if length < rest.len() {
-                Next::Piece { length }
+                AtCommit::Piece { length }
             } else {
-                Next::Cut
+                AtCommit::Cut
             }
         }
-        [1, ..] => Next::Cut,
-        _ => Next::Shut,
+        [1, ..] => AtCommit::Cut,
+        _ => AtCommit::Shut,
     }
 }
 
 /// The batch behind a commit byte; none behind a shut commit byte.
-fn batch_at(alloc: Global, content: &[u8], commit: usize) -> Result<Option<Found>, OpenError>
+fn batch_at(alloc: Global, content: &[u8], commit: usize) -> Result<Option<FoundBatch>, OpenError>
     requires within { commit < length content.now }
     ensures ok { IfOk result (FindsBatch content.now commit) }
     ensures err { IfErr result (FindsNot content.now commit) }
@@ -59,11 +59,11 @@ fn batch_at(alloc: Global, content: &[u8], commit: usize) -> Result<Option<Found
 {
     let bytes = &content[commit..];
     match next_in(bytes) {
-        Next::Shut => Ok(None),
-        Next::Cut => Err(OpenError::Damaged {
+        AtCommit::Shut => Ok(None),
+        AtCommit::Cut => Err(OpenError::Damaged {
             place: commit as u64,
         }),
-        Next::Piece { length } => piece_at(alloc, content, commit, length),
+        AtCommit::Piece { length } => piece_at(alloc, content, commit, length),
     }
 }
 
@@ -73,7 +73,7 @@ fn piece_at(
     content: &[u8],
     commit: usize,
     len: usize,
-) -> Result<Option<Found>, OpenError>
+) -> Result<Option<FoundBatch>, OpenError>
     requires finds { FindsPiece (drop commit content.now) len }
     requires within { commit + 5 + len < length content.now }
     ensures ok { IfOk result (FindsBatch content.now commit) }
@@ -86,7 +86,7 @@ fn piece_at(
         return Err(OpenError::NoMemory);
     };
     match read {
-        Some(batch) => Ok(Some(Found { batch, behind })),
+        Some(batch) => Ok(Some(FoundBatch { batch, behind })),
         None => Err(OpenError::Damaged {
             place: commit as u64,
         }),

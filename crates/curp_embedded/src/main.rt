@@ -27,34 +27,34 @@ const CLUSTER: Header = Header {
 };
 
 fn main(rt: HostRuntime) -> Result<()> {
-    let mut store = Store::new(rt.alloc())?;
-    update_and_read(&rt, &mut store)?;
-    recover_and_read(&rt, &mut store)
+    let mut deployment = Deployment::new(rt.alloc())?;
+    update_and_read(&rt, &mut deployment)?;
+    recover_and_read(&rt, &mut deployment)
 }
 
-fn update_and_read(rt: &impl Print, store: &mut Store) -> Result<()> {
+fn update_and_read(rt: &impl Print, deployment: &mut Deployment) -> Result<()> {
     let key = Key::new(b"tea").ok().context("no key")?;
     let value = Value::new(b"95").ok().context("no value")?;
-    let put = Local::Invoke(Shared::of(store.alloc, &Command::Put(key, value))?);
-    store.ask(rt, "Client 1 puts 95 under tea.", put)?;
-    store.ask(rt, "Client 1 retries request 1.", Local::Retry(1))?;
-    let get = Local::Invoke(Shared::of(store.alloc, &Command::Get(key))?);
-    store.ask(rt, "Client 1 reads tea.", get)
+    let put = Local::Invoke(Shared::of(deployment.alloc, &Command::Put(key, value))?);
+    deployment.ask(rt, "Client 1 puts 95 under tea.", put)?;
+    deployment.ask(rt, "Client 1 retries request 1.", Local::Retry(1))?;
+    let get = Local::Invoke(Shared::of(deployment.alloc, &Command::Get(key))?);
+    deployment.ask(rt, "Client 1 reads tea.", get)
 }
 
-fn recover_and_read(rt: &impl Print, store: &mut Store) -> Result<()> {
+fn recover_and_read(rt: &impl Print, deployment: &mut Deployment) -> Result<()> {
     let recover = Local::Recover {
         part: 1,
         backup: 1,
         witness: 1,
     };
-    store.make_fresh_nodes()?;
-    store.order(rt, "Master 1 is given up.", NodeId::manager(), recover)?;
+    deployment.make_fresh_nodes()?;
+    deployment.order(rt, "Master 1 is given up.", NodeId::manager(), recover)?;
     let key = Key::new(b"tea").ok().context("no key")?;
-    let get = Local::Invoke(Shared::of(store.alloc, &Command::Get(key))?);
-    store.ask(rt, "Client 1 reads tea, at master 1.", get)?;
-    store.ask(rt, "Client 1 asks which nodes serve.", Local::Fetch)?;
-    store.ask(rt, "Client 1 retries request 3.", Local::Retry(3))
+    let get = Local::Invoke(Shared::of(deployment.alloc, &Command::Get(key))?);
+    deployment.ask(rt, "Client 1 reads tea, at master 1.", get)?;
+    deployment.ask(rt, "Client 1 asks which nodes serve.", Local::Fetch)?;
+    deployment.ask(rt, "Client 1 retries request 3.", Local::Retry(3))
 }
 
 // snippet: a node
@@ -75,7 +75,7 @@ fn give<N: Core>(node: &mut N, input: &Input, network: &mut Network) -> Result<O
 
 /// All nodes, each kind by its numbers from 1, and the network between them.
 #[derive(Drop)]
-struct Store {
+struct Deployment {
     alloc: Global,
     manager: ManagerNode,
     clients: Vec<ClientNode>,
@@ -85,10 +85,10 @@ struct Store {
     network: Network,
 }
 
-impl Store {
-    fn new(alloc: Global) -> Result<Store, NoMemory> {
+impl Deployment {
+    fn new(alloc: Global) -> Result<Deployment, NoMemory> {
         let manager = opening::manager(alloc, &CLUSTER)?;
-        Ok(Store {
+        Ok(Deployment {
             alloc,
             clients: opening::clients(alloc, &CLUSTER, manager.config())?,
             masters: opening::masters(alloc, &CLUSTER, manager.config())?,

@@ -24,7 +24,7 @@ use std::alloc::Global;
 
 /// What is said of inputs, and the number of the input behind them.
 #[derive(Drop)]
-struct Said {
+struct BatchText {
     text: Vec<u8>,
     behind: u64,
 }
@@ -67,7 +67,7 @@ fn say<N: Core + Drop, D: Disk>(
     node: &mut Durable<N, D>,
     number: u64,
     batch: Batch,
-) -> Result<Said, FilterEnd>
+) -> Result<BatchText, FilterEnd>
     ensures text { IfOk result (λ said. said.text.items
         ≡ text_of N.machine node.old.stand number (came_together batch.arrived.items batch.last)) }
     ensures counted { IfOk result (λ said. said.behind
@@ -112,7 +112,7 @@ fn text_for(
     answers: &[Answered],
     behind: u64,
     last: Option<PassedOver>,
-) -> Result<Said, NoMemory>
+) -> Result<BatchText, NoMemory>
     ensures text { IfOk result (λ said. said.text.items
         ≡ parcels_of (all_told number answers.now) ++ parcels_of (last_said behind last)) }
     ensures counted { IfOk result (λ said. said.behind ≡ number_behind behind (came_last last)) }
@@ -120,10 +120,10 @@ fn text_for(
     let mut text = Vec::new(alloc);
     tell(alloc, number, answers, &mut text)?;
     let Some(it) = last else {
-        return Ok(Said { text, behind });
+        return Ok(BatchText { text, behind });
     };
     tell_one(alloc, &told_of(behind, &it), &mut text)?;
-    Ok(Said {
+    Ok(BatchText {
         text,
         behind: behind.saturating_add(1),
     })

@@ -9,10 +9,10 @@ use Rattle.curp_cmd.specs.declared.command.Command.{Command}
 use Rattle.curp_front.specs.Replies.{said_text}
 use Rattle.curp_front.specs.Talk.{command_count, outcome_text, replies_to}
 use Rattle.curp_front.specs.declared.connection.Said.{Said}
-use Rattle.curp_front.specs.declared.due.Due.{Due}
+use Rattle.curp_front.specs.declared.due.DueReply.{DueReply}
 
 -- one more command, and what came of it
-pub replies_command : (requests : List Asked) (outcomes : List Due) (command : Command) (outcome : Due) → command_count requests ≡ length outcomes
+pub replies_command : (requests : List Asked) (outcomes : List DueReply) (command : Command) (outcome : DueReply) → command_count requests ≡ length outcomes
     → replies_to (requests ++ asked.Command command ∷ []) (outcomes ++ outcome ∷ []) ≡ replies_to requests outcomes ++ outcome_text outcome
 replies_command [] [] command outcome e = append-nil (outcome_text outcome)
 replies_command [] (o ∷ outcomes) command outcome e = absurd (omega (arith, e))
@@ -24,7 +24,7 @@ replies_command (asked.Command c ∷ requests) (o ∷ outcomes) command outcome 
     ∙ sym (append_assoc (outcome_text o) (replies_to requests outcomes) (outcome_text outcome))
 
 -- one more that means no command
-pub replies_other : (requests : List Asked) (outcomes : List Due) (other : Other) → command_count requests ≡ length outcomes
+pub replies_other : (requests : List Asked) (outcomes : List DueReply) (other : Other) → command_count requests ≡ length outcomes
     → replies_to (requests ++ asked.Other other ∷ []) outcomes ≡ replies_to requests outcomes ++ other_of other
 replies_other [] outcomes other e = append-nil (other_of other)
 replies_other (asked.Other first ∷ requests) outcomes other e =

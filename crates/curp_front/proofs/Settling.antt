@@ -3,9 +3,9 @@ use Rattle.std.proofs.Common.{◌≡◌, true, false, List, [], ◌∷◌, Some,
 use Rattle.std.specs.Prelude.{option_map, if◌then◌else◌}
 use Rattle.curp_front.specs.Conversation.{is_given, settled_due}
 use Rattle.curp_front.specs.Finding.{Found, found_behind, found_by, in_place}
-use Rattle.curp_front.specs.declared.due.Due.{Due}
+use Rattle.curp_front.specs.declared.due.DueReply.{DueReply}
 
-pub settled_found : (new : Due) (dues : List Due) (found : Found Due) → found_by is_given dues ≡ Some found → settled_due new dues ≡ in_place (new ∷ []) found
+pub settled_found : (new : DueReply) (dues : List DueReply) (found : Found DueReply) → found_by is_given dues ≡ Some found → settled_due new dues ≡ in_place (new ∷ []) found
 settled_found new [] found e = absurd cc
 settled_found new (d ∷ rest) found e =
     elim (is_given d) as (λ b. (if b then Some (record { before = []; it = d; behind = rest }) else option_map (found_behind d) (found_by is_given rest)) ≡ Some found
@@ -22,7 +22,7 @@ settled_found new (d ∷ rest) found e =
           ] refl later
     ] e
 
-pub settled_none : (new : Due) (dues : List Due) → found_by is_given dues ≡ None → settled_due new dues ≡ dues
+pub settled_none : (new : DueReply) (dues : List DueReply) → found_by is_given dues ≡ None → settled_due new dues ≡ dues
 settled_none new [] e = refl
 settled_none new (d ∷ rest) e =
     elim (is_given d) as (λ b. (if b then Some (record { before = []; it = d; behind = rest }) else option_map (found_behind d) (found_by is_given rest)) ≡ None

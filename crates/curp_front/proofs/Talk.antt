@@ -18,10 +18,10 @@ use Rattle.curp_front.specs.Talk.{EndsSo, Event, Came, Ended, Taken, Settled, Co
 use Rattle.curp_front.specs.declared.connection.Peer.TheVariants as peer
 use Rattle.curp_front.specs.declared.connection.Said.{Said}
 use Rattle.curp_front.specs.declared.connection.Said.TheVariants as said
-use Rattle.curp_front.specs.declared.connection.Stage.{Stage}
-use Rattle.curp_front.specs.declared.connection.Stage.TheVariants as stage
-use Rattle.curp_front.specs.declared.due.Due.{Due}
-use Rattle.curp_front.specs.declared.due.Due.TheVariants as due
+use Rattle.curp_front.specs.declared.connection.ConnectionStage.{ConnectionStage}
+use Rattle.curp_front.specs.declared.connection.ConnectionStage.TheVariants as stage
+use Rattle.curp_front.specs.declared.due.DueReply.{DueReply}
+use Rattle.curp_front.specs.declared.due.DueReply.TheVariants as due
 use Rattle.curp_front.proofs.Replies.{count_command, count_other, replies_command, replies_other, told_more}
 use Rattle.curp_front.proofs.Splitting.{broken_some, splits_more, splits_next, stands_first}
 
@@ -56,7 +56,7 @@ nothing : {A : Type 0} (xs : List A) → length xs ≡ 0 → xs ≡ []
 nothing [] e = refl
 nothing (x ∷ xs) e = absurd (omega arith)
 
-settled_length : (new : Due) (dues : List Due) → length (settled_due new dues) ≡ length dues
+settled_length : (new : DueReply) (dues : List DueReply) → length (settled_due new dues) ≡ length dues
 settled_length new [] = refl
 settled_length new (d ∷ rest) =
     elim (is_given d) as (λ b. length (if b then new ∷ rest else d ∷ settled_due new rest) ≡ suc (length rest)) [
@@ -81,19 +81,19 @@ stands bytes f e = subst (IsFirst bytes) e (first_stands bytes)
 
 -- ---- how it ends
 
-serving_served : (s : Stage) → is_serving s ≡ true → is_served s ≡ true
+serving_served : (s : ConnectionStage) → is_serving s ≡ true → is_served s ≡ true
 serving_served stage.Serving e = refl
 serving_served stage.Overfull e = refl
 serving_served stage.Failed e = absurd cc
 serving_served stage.Closed e = absurd cc
 
-served_ends : (s : Stage) (bytes : List ℕ) (waiting : List (List (List ℕ))) (rest text : List ℕ) → is_served s ≡ true → EndsSo s bytes waiting rest text → (rest ≡ bytes) × (text ≡ [])
+served_ends : (s : ConnectionStage) (bytes : List ℕ) (waiting : List (List (List ℕ))) (rest text : List ℕ) → is_served s ≡ true → EndsSo s bytes waiting rest text → (rest ≡ bytes) × (text ≡ [])
 served_ends stage.Serving bytes waiting rest text e ends = ends
 served_ends stage.Overfull bytes waiting rest text e ends = ends
 served_ends stage.Failed bytes waiting rest text e ends = absurd cc
 served_ends stage.Closed bytes waiting rest text e ends = absurd cc
 
-ends_served : (s : Stage) (bytes : List ℕ) (waiting : List (List (List ℕ))) (rest text : List ℕ) → is_served s ≡ true → rest ≡ bytes → text ≡ [] → EndsSo s bytes waiting rest text
+ends_served : (s : ConnectionStage) (bytes : List ℕ) (waiting : List (List (List ℕ))) (rest text : List ℕ) → is_served s ≡ true → rest ≡ bytes → text ≡ [] → EndsSo s bytes waiting rest text
 ends_served stage.Serving bytes waiting rest text e left none = (left, none)
 ends_served stage.Overfull bytes waiting rest text e left none = (left, none)
 ends_served stage.Failed bytes waiting rest text e left none = absurd cc
@@ -214,7 +214,7 @@ module _ (t : Talk) (h : InOrder t) where
       }
 
   -- the reply to the first command that waits
-  told_outcome : (s : Said) (d : Due) (dues : List Due) (o : Due) (first : List (List ℕ)) (others : List (List (List ℕ))) → h.waiting ≡ first ∷ others → t.now.due ≡ d ∷ dues
+  told_outcome : (s : Said) (d : DueReply) (dues : List DueReply) (o : DueReply) (first : List (List ℕ)) (others : List (List (List ℕ))) → h.waiting ≡ first ∷ others → t.now.due ≡ d ∷ dues
       → outcome_of s ≡ o ∷ [] → said_text s ≡ outcome_text o → is_served t.now.stage ≡ true
       → InOrder (record t { now = record t.now { due = drop 1 t.now.due }; outcomes = t.outcomes ++ outcome_of s; told = t.told ++ s ∷ [] })
   told_outcome s d dues o first others waits dues_are outcome text served =
@@ -315,7 +315,7 @@ module _ (t : Talk) (h : InOrder t) where
       subst (λ x. InOrder (tells (Some x) t)) same
       (told_error said.Protocol refl none_waits none_due so.1 (subst NoneStandsFirst (sym so.0) broken.broken.none) (inl (some, refl)))
 
-  told_due : (s : Said) (dues : List Due) (waiting : List (List (List ℕ))) → t.now.due ≡ dues → h.waiting ≡ waiting → is_served t.now.stage ≡ true → said_of_due dues t.now ≡ Some s → InOrder (tells (Some s) t)
+  told_due : (s : Said) (dues : List DueReply) (waiting : List (List (List ℕ))) → t.now.due ≡ dues → h.waiting ≡ waiting → is_served t.now.stage ≡ true → said_of_due dues t.now ≡ Some s → InOrder (tells (Some s) t)
   told_due s [] waiting dues_are waits served e =
       told_first s (first_in t.now.bytes) refl dues_are (nothing h.waiting (h.due ∙ ap length dues_are)) served e
   told_due s (d ∷ dues) [] dues_are waits served e = absurd (omega (arith, h.due, ap length dues_are, ap length waits))
@@ -328,7 +328,7 @@ module _ (t : Talk) (h : InOrder t) where
       let same : said.Refused why ≡ s = cc in
       subst (λ x. InOrder (tells (Some x) t)) same (told_outcome (said.Refused why) (due.Refused why) dues (due.Refused why) first others waits dues_are refl refl served)
 
-  told_by : (s : Said) (at : Stage) → t.now.stage ≡ at → said_by_stage at t.now ≡ Some s → InOrder (tells (Some s) t)
+  told_by : (s : Said) (at : ConnectionStage) → t.now.stage ≡ at → said_by_stage at t.now ≡ Some s → InOrder (tells (Some s) t)
   told_by s stage.Serving is e =
       elim (more_may_come t.now) as (λ b. (if b then Some said.More else said_of_due t.now.due t.now) ≡ Some s → InOrder (tells (Some s) t)) [
         | true ↦ λ f.

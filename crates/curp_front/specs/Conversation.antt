@@ -14,18 +14,18 @@ use Rattle.curp_front.specs.declared.connection.Peer.{Peer}
 use Rattle.curp_front.specs.declared.connection.Peer.TheVariants as peer
 use Rattle.curp_front.specs.declared.connection.Said.{Said}
 use Rattle.curp_front.specs.declared.connection.Said.TheVariants as said
-use Rattle.curp_front.specs.declared.connection.Stage.{Stage}
-use Rattle.curp_front.specs.declared.connection.Stage.TheVariants as stage
-use Rattle.curp_front.specs.declared.due.Due.{Due}
-use Rattle.curp_front.specs.declared.due.Due.TheVariants as due
+use Rattle.curp_front.specs.declared.connection.ConnectionStage.{ConnectionStage}
+use Rattle.curp_front.specs.declared.connection.ConnectionStage.TheVariants as stage
+use Rattle.curp_front.specs.declared.due.DueReply.{DueReply}
+use Rattle.curp_front.specs.declared.due.DueReply.TheVariants as due
 
 -- its number, the bytes that came and were not taken apart, and the replies that are due to its commands, in order
 pub record Conversation : Type 0 where
   pub number : ℕ
   pub bytes : List ℕ
-  pub due : List Due
+  pub due : List DueReply
   pub peer : Peer
-  pub stage : Stage
+  pub stage : ConnectionStage
 
 -- before anything came
 abbrev pub fresh : ℕ → Conversation
@@ -51,26 +51,26 @@ is_paused peer.Sending = false
 is_paused peer.Paused = true
 is_paused peer.Gone = false
 
-abbrev pub is_serving : Stage → Bool
+abbrev pub is_serving : ConnectionStage → Bool
 is_serving stage.Serving = true
 is_serving stage.Overfull = false
 is_serving stage.Failed = false
 is_serving stage.Closed = false
 
-abbrev pub is_overfull : Stage → Bool
+abbrev pub is_overfull : ConnectionStage → Bool
 is_overfull stage.Serving = false
 is_overfull stage.Overfull = true
 is_overfull stage.Failed = false
 is_overfull stage.Closed = false
 
 -- the requests that came are served
-abbrev pub is_served : Stage → Bool
+abbrev pub is_served : ConnectionStage → Bool
 is_served stage.Serving = true
 is_served stage.Overfull = true
 is_served stage.Failed = false
 is_served stage.Closed = false
 
-abbrev pub is_closed : Stage → Bool
+abbrev pub is_closed : ConnectionStage → Bool
 is_closed stage.Serving = false
 is_closed stage.Overfull = false
 is_closed stage.Failed = false
@@ -102,22 +102,22 @@ gone c = record c { peer = peer.Gone }
 
 -- ---- what comes of its commands
 
-abbrev pub is_given : Due → Bool
+abbrev pub is_given : DueReply → Bool
 is_given due.Given = true
 is_given (due.Pending id) = false
 is_given (due.Answered a) = false
 is_given (due.Refused why) = false
 
 -- the first that was given, and of which nothing has come, is this from then on
-abbrev pub settled_due : Due → List Due → List Due
+abbrev pub settled_due : DueReply → List DueReply → List DueReply
 settled_due new [] = []
 settled_due new (d ∷ rest) = if is_given d then new ∷ rest else d ∷ settled_due new rest
 
-abbrev pub settled : Due → Conversation → Conversation
+abbrev pub settled : DueReply → Conversation → Conversation
 settled new c = record c { due = settled_due new c.due }
 
 -- a request was completed with this answer
-abbrev pub completed_due : RequestId → Answer → Due → Due
+abbrev pub completed_due : RequestId → Answer → DueReply → DueReply
 completed_due id answer due.Given = due.Given
 completed_due id answer (due.Pending own) = if same_id own id then due.Answered answer else due.Pending own
 completed_due id answer (due.Answered a) = due.Answered a
@@ -186,14 +186,14 @@ said_at first.Broken c = Some said.Protocol
 said_at first.Part c = said_inside c
 
 -- the reply to a command, once it is there
-abbrev pub due_said : Due → Option Said
+abbrev pub due_said : DueReply → Option Said
 due_said due.Given = None
 due_said (due.Pending id) = None
 due_said (due.Answered a) = Some (said.Answer a)
 due_said (due.Refused why) = Some (said.Refused why)
 
 -- the first reply that is due, once it is there
-abbrev pub said_of_due : List Due → Conversation → Option Said
+abbrev pub said_of_due : List DueReply → Conversation → Option Said
 said_of_due [] c = said_at (first_in c.bytes) c
 said_of_due (d ∷ rest) c = due_said d
 
@@ -206,7 +206,7 @@ is_part first.Broken = false
 abbrev pub more_may_come : Conversation → Bool
 more_may_come c = is_paused c.peer && is_part (first_in c.bytes)
 
-abbrev pub said_by_stage : Stage → Conversation → Option Said
+abbrev pub said_by_stage : ConnectionStage → Conversation → Option Said
 said_by_stage stage.Serving c = if more_may_come c then Some said.More else said_of_due c.due c
 said_by_stage stage.Overfull c = said_of_due c.due c
 said_by_stage stage.Failed c = Some said.Close

@@ -5,7 +5,7 @@ use Rattle.curp_front.specs.Conversation.{Conversation, came, command_of, fresh,
 use Rattle.curp_front.specs.Finding.{Found, found_by, in_place}
 use Rattle.curp_front.specs.Replies.{output_of}
 use Rattle.curp_front.specs.declared.connection.Said.{Said}
-use Rattle.curp_front.specs.declared.due.Due.{Due}
+use Rattle.curp_front.specs.declared.due.DueReply.{DueReply}
 use Rattle.curp_front.specs.declared.output.FrontOutput.{FrontOutput}
 
 -- so many connections there may be
@@ -53,7 +53,7 @@ abbrev pub ended : ℕ → List Conversation → List Conversation
 ended number connections = changed number (λ c. kept (gone c)) connections
 
 -- this came of the first of its commands that was given, and of which nothing had come
-abbrev pub settled_in : ℕ → Due → List Conversation → List Conversation
+abbrev pub settled_in : ℕ → DueReply → List Conversation → List Conversation
 settled_in number due connections = changed number (λ c. settled due c ∷ []) connections
 
 -- ---- which command is to be invoked

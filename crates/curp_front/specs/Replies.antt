@@ -3,13 +3,13 @@ use Rattle.std.specs.Prelude.{ℕ, codes, List, []}
 use Rattle.curp_resp.specs.Reply.{error, other_of, protocol_error, reply_of}
 use Rattle.curp_front.specs.declared.connection.Said.{Said}
 use Rattle.curp_front.specs.declared.connection.Said.TheVariants as said
-use Rattle.curp_front.specs.declared.due.Refusal.{Refusal}
-use Rattle.curp_front.specs.declared.due.Refusal.TheVariants as refusal
+use Rattle.curp_front.specs.declared.due.InvokeRefusal.{InvokeRefusal}
+use Rattle.curp_front.specs.declared.due.InvokeRefusal.TheVariants as refusal
 use Rattle.curp_front.specs.declared.output.FrontOutput.{FrontOutput}
 use Rattle.curp_front.specs.declared.output.FrontOutput.TheVariants as output
 
 -- the reply to a command that wasn't invoked
-abbrev pub refusal_text : Refusal → List ℕ
+abbrev pub refusal_text : InvokeRefusal → List ℕ
 refusal_text refusal.Split = error (codes "keys of several partitions")
 refusal_text refusal.Spent = error (codes "no more requests")
 

@@ -12,10 +12,10 @@ use Rattle.curp_front.specs.Conversation.{Conversation, came, completed, fresh, 
 use Rattle.curp_front.specs.Replies.{refusal_text, said_text, too_many_bytes}
 use Rattle.curp_front.specs.declared.connection.Said.{Said}
 use Rattle.curp_front.specs.declared.connection.Said.TheVariants as said
-use Rattle.curp_front.specs.declared.connection.Stage.{Stage}
-use Rattle.curp_front.specs.declared.connection.Stage.TheVariants as stage
-use Rattle.curp_front.specs.declared.due.Due.{Due}
-use Rattle.curp_front.specs.declared.due.Due.TheVariants as due
+use Rattle.curp_front.specs.declared.connection.ConnectionStage.{ConnectionStage}
+use Rattle.curp_front.specs.declared.connection.ConnectionStage.TheVariants as stage
+use Rattle.curp_front.specs.declared.due.DueReply.{DueReply}
+use Rattle.curp_front.specs.declared.due.DueReply.TheVariants as due
 
 -- ---- what passes
 
@@ -25,7 +25,7 @@ pub data Event : Type 0 where
   Came : List ℕ → Event
   Ended : Event
   Taken : Event
-  Settled : Due → Event
+  Settled : DueReply → Event
   Completed : RequestId → Answer → Event
   Told : Event
 
@@ -33,7 +33,7 @@ pub data Event : Type 0 where
 pub record Talk : Type 0 where
   pub now : Conversation
   pub input : List ℕ
-  pub outcomes : List Due
+  pub outcomes : List DueReply
   pub told : List Said
 
 abbrev pub begins : ℕ → Talk
@@ -46,7 +46,7 @@ taken_bytes bytes c =
     else (if nat_le (length c.bytes + length bytes) most_bytes then bytes else [])
 
 -- what came of the command whose reply this is
-abbrev pub outcome_of : Said → List Due
+abbrev pub outcome_of : Said → List DueReply
 outcome_of said.More = []
 outcome_of (said.Answer a) = due.Answered a ∷ []
 outcome_of (said.Refused why) = due.Refused why ∷ []
@@ -79,14 +79,14 @@ talk (e ∷ events) t = talk events (happens e t)
 -- ---- the replies
 
 -- to what came of a command
-abbrev pub outcome_text : Due → List ℕ
+abbrev pub outcome_text : DueReply → List ℕ
 outcome_text due.Given = []
 outcome_text (due.Pending id) = []
 outcome_text (due.Answered a) = reply_of a
 outcome_text (due.Refused why) = refusal_text why
 
 -- to requests, of which the commands come to these in turn, up to the first that has come to nothing
-abbrev pub replies_to : List Asked → List Due → List ℕ
+abbrev pub replies_to : List Asked → List DueReply → List ℕ
 replies_to [] outcomes = []
 replies_to (asked.Other other ∷ rest) outcomes = other_of other ++ replies_to rest outcomes
 replies_to (asked.Command command ∷ rest) [] = []
@@ -119,7 +119,7 @@ IsError rest text = ((rest ≢ []) × (text ≡ protocol_error)) ⊎ (text ≡ t
 
 -- Until it is told an error or its end, all that is left waits, and no such thing was told. Then no reply is due, and
 -- what was left begins with no request; it was told an error, or nothing where nothing was left.
-abbrev pub EndsSo : Stage → (bytes : List ℕ) → (waiting : List (List (List ℕ))) → (rest text : List ℕ) → Type 0
+abbrev pub EndsSo : ConnectionStage → (bytes : List ℕ) → (waiting : List (List (List ℕ))) → (rest text : List ℕ) → Type 0
 EndsSo stage.Serving bytes waiting rest text = (rest ≡ bytes) × (text ≡ [])
 EndsSo stage.Overfull bytes waiting rest text = (rest ≡ bytes) × (text ≡ [])
 EndsSo stage.Failed bytes waiting rest text = (waiting ≡ []) × NoneStandsFirst rest × IsError rest text

@@ -3,9 +3,9 @@ ghost use Rattle.curp_resp.specs.First.{first_in};
 ghost use Rattle.curp_front.specs.Conversation.{came, command_of, completed, completed_due, failed, asked_command, first_command, fresh, gone, is_given};
 ghost use Rattle.curp_front.specs.Conversation.{is_gone, is_over, is_overfull, is_part, is_paused, is_closed, is_served, is_serving, more_may_come, passed};
 ghost use Rattle.curp_front.specs.Conversation.{said_at, said_behind, said_by, said_inside, said_of_due, said_to, settled, settled_due, taken, without_first};
-ghost use Rattle.curp_front.specs.declared.due.Due.TheVariants as given;
+ghost use Rattle.curp_front.specs.declared.due.DueReply.TheVariants as given;
 
-use crate::due::{Due, Refusal};
+use crate::due::{DueReply, InvokeRefusal};
 use curp_base::NoMemory;
 use curp_cmd::{Answer, Command, RequestId};
 use curp_resp::{Asked, FirstRequest, Other, first_request};
@@ -31,7 +31,7 @@ pub enum Peer {
 
 /// How far a connection is.
 #[derive(Clone, Copy)]
-pub enum Stage {
+pub enum ConnectionStage {
     /// Its bytes are taken, and its requests served.
     Serving,
     /// More bytes came than may wait. Those that came before are served.
@@ -50,7 +50,7 @@ pub enum Said {
     /// The answer to the first command to which a reply is due.
     Answer(Answer),
     /// Why that command wasn't invoked.
-    Refused(Refusal),
+    Refused(InvokeRefusal),
     /// What its first request means, which means no command. It may be no reply, of no bytes.
     Other(Other),
     /// Its bytes begin with no request.
@@ -75,30 +75,30 @@ impl Peer {
     }
 }
 
-impl Stage {
+impl ConnectionStage {
     fn is_serving(self) -> bool
         ensures { result ≡ is_serving self }
     {
-        matches!(self, Stage::Serving)
+        matches!(self, ConnectionStage::Serving)
     }
 
     fn is_overfull(self) -> bool
         ensures { result ≡ is_overfull self }
     {
-        matches!(self, Stage::Overfull)
+        matches!(self, ConnectionStage::Overfull)
     }
 
     /// Whether the requests that came are served.
     fn is_served(self) -> bool
         ensures { result ≡ is_served self }
     {
-        matches!(self, Stage::Serving | Stage::Overfull)
+        matches!(self, ConnectionStage::Serving | ConnectionStage::Overfull)
     }
 
     fn is_closed(self) -> bool
         ensures { result ≡ is_closed self }
     {
-        matches!(self, Stage::Closed)
+        matches!(self, ConnectionStage::Closed)
     }
 }
 
@@ -109,9 +109,9 @@ pub(crate) struct Connection {
     // Those before `start` were taken apart.
     bytes: Vec<u8>,
     start: usize,
-    due: Vec<Due>,
+    due: Vec<DueReply>,
     peer: Peer,
-    stage: Stage,
+    stage: ConnectionStage,
 }
 
 impl Model for Connection {
@@ -142,7 +142,7 @@ impl Connection {
             start: 0,
             due: Vec::new(alloc),
             peer: Peer::Sending,
-            stage: Stage::Serving,
+            stage: ConnectionStage::Serving,
         }
     }
 
@@ -170,7 +170,7 @@ impl Connection {
             return Ok(());
         }
         if self.waiting().len() + bytes.len() > MOST_BYTES {
-            self.stage = Stage::Overfull;
+            self.stage = ConnectionStage::Overfull;
             return Ok(());
         }
         self.append(bytes)?;
@@ -186,7 +186,7 @@ impl Connection {
     }
 
     /// The first command that was given, and of which nothing has come so far, was invoked or refused.
-    pub(crate) fn settle(&mut self, due: &Due)
+    pub(crate) fn settle(&mut self, due: &DueReply)
         ensures { self.new ≡ settled due.now self.old }
     {
         settle_first(&mut self.due, due);
@@ -233,10 +233,10 @@ impl Connection {
         ensures { result ≡ said_by self.now }
     {
         match self.stage {
-            Stage::Closed => None,
-            Stage::Failed => Some(Said::Close),
-            Stage::Overfull => self.said_of_due(),
-            Stage::Serving => {
+            ConnectionStage::Closed => None,
+            ConnectionStage::Failed => Some(Said::Close),
+            ConnectionStage::Overfull => self.said_of_due(),
+            ConnectionStage::Serving => {
                 if self.more_may_come() {
                     Some(Said::More)
                 } else {
@@ -255,7 +255,7 @@ impl Connection {
             Said::Answer(_) | Said::Refused(_) => drop_due(&mut self.due),
             Said::Other(_) => self.pass_first(),
             Said::Protocol | Said::TooMuch => self.fail(),
-            Said::Close => self.stage = Stage::Closed,
+            Said::Close => self.stage = ConnectionStage::Closed,
         }
     }
 
@@ -332,7 +332,7 @@ impl Connection {
     {
         self.bytes.clear();
         self.start = 0;
-        self.stage = Stage::Failed;
+        self.stage = ConnectionStage::Failed;
     }
 
     /// Bytes come behind those that wait.
@@ -366,7 +366,7 @@ fn drop_first(bytes: &mut Vec<u8>, count: usize)
 }
 
 /// The reply that is due first was told.
-fn drop_due(due: &mut Vec<Due>)
+fn drop_due(due: &mut Vec<DueReply>)
     ensures { due.new.items ≡ drop 1 due.old.items }
 {
     if !due.is_empty() {
@@ -375,23 +375,23 @@ fn drop_due(due: &mut Vec<Due>)
 }
 
 /// A reply is due to one command more, which is given.
-fn add_given(due: &mut Vec<Due>) -> Result<(), NoMemory>
+fn add_given(due: &mut Vec<DueReply>) -> Result<(), NoMemory>
     ensures ok { OnOk result (due.new.items ≡ due.old.items ++ given.Given ∷ []) }
     ensures err { OnErr result (due.new.items ≡ due.old.items) }
 {
-    // A `push` of a `Due` gets no generated proof.
-    Ok(due.extend_from_slice(&[Due::Given])?)
+    // A `push` of a `DueReply` gets no generated proof.
+    Ok(due.extend_from_slice(&[DueReply::Given])?)
 }
 
 /// Where the first stands that was given, and of which nothing has come.
-fn first_given(due: &[Due]) -> Option<usize>
+fn first_given(due: &[DueReply]) -> Option<usize>
     ensures { result ≡ position is_given due.now }
 {
     due.iter().position(|each| each.is_given())
 }
 
 /// That one is this from then on.
-fn settle_first(due: &mut [Due], new: &Due)
+fn settle_first(due: &mut [DueReply], new: &DueReply)
     ensures { due.new ≡ settled_due new.now due.old }
 {
     if let Some(at) = first_given(due) {
@@ -400,7 +400,7 @@ fn settle_first(due: &mut [Due], new: &Due)
 }
 
 /// A request was completed, which may be one of these.
-fn complete_each(due: &mut Vec<Due>, id: &RequestId, answer: &Answer)
+fn complete_each(due: &mut Vec<DueReply>, id: &RequestId, answer: &Answer)
     ensures { due.new.items ≡ map (completed_due id.now answer.now) due.old.items }
 {
     for at in 0..due.len() {

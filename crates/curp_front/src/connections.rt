@@ -6,7 +6,7 @@ ghost use Rattle.curp_front.specs.Fronts.{after_output, after_taking_of, bytes_c
 ghost use Rattle.curp_front.specs.Fronts.{taken_of, told_of};
 
 use crate::connection::Connection;
-use crate::due::Due;
+use crate::due::DueReply;
 use crate::output::FrontOutput;
 use curp_base::NoMemory;
 use curp_cmd::{Answer, Command, RequestId};
@@ -109,7 +109,7 @@ fn end_at(connections: &mut Vec<Connection>, at: usize)
 }
 
 /// This came of the first command of that connection that was given, and of which nothing had come.
-pub(crate) fn settle(connections: &mut Vec<Connection>, number: u64, due: &Due)
+pub(crate) fn settle(connections: &mut Vec<Connection>, number: u64, due: &DueReply)
     ensures { connections.new.items ≡ settled_in number due.now connections.old.items }
 {
     if let Some(at) = place_of(connections, number) {
@@ -117,7 +117,7 @@ pub(crate) fn settle(connections: &mut Vec<Connection>, number: u64, due: &Due)
     }
 }
 
-fn settle_at(connections: &mut Vec<Connection>, at: usize, due: &Due)
+fn settle_at(connections: &mut Vec<Connection>, at: usize, due: &DueReply)
     requires { at < length connections.old.items }
     ensures { (found : Found Conversation) → StandsAt connections.old.items at found
         → connections.new.items ≡ in_place (settled due.now found.it ∷ []) found }

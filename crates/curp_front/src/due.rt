@@ -7,7 +7,7 @@ use curp_cmd::{Answer, RequestId};
 
 /// Why the client node didn't invoke a command.
 #[derive(Clone, Copy, Debug, PartialEq, Eq)]
-pub enum Refusal {
+pub enum InvokeRefusal {
     /// No one partition owns all keys of the command.
     Split,
     /// The client invokes nothing any more: its numbers are at their end, or the stamps of its journal.
@@ -16,7 +16,7 @@ pub enum Refusal {
 
 /// A reply that is due to a command.
 #[derive(Clone, Copy)]
-pub enum Due {
+pub enum DueReply {
     /// The command was given, to be invoked.
     Given,
     /// It was invoked under this number, and isn't completed.
@@ -24,15 +24,15 @@ pub enum Due {
     /// It was completed with this answer.
     Answered(Answer),
     /// It was not invoked.
-    Refused(Refusal),
+    Refused(InvokeRefusal),
 }
 
-impl Due {
+impl DueReply {
     /// Whether its command was given and nothing has come of it so far.
     pub(crate) fn is_given(&self) -> bool
         ensures { result ≡ is_given self.now }
     {
-        matches!(self, Due::Given)
+        matches!(self, DueReply::Given)
     }
 
     /// The reply, once it is there.
@@ -40,9 +40,9 @@ impl Due {
         ensures { result ≡ due_said self.now }
     {
         match self {
-            Due::Given | Due::Pending(_) => None,
-            Due::Answered(answer) => Some(Said::Answer(*answer)),
-            Due::Refused(why) => Some(Said::Refused(*why)),
+            DueReply::Given | DueReply::Pending(_) => None,
+            DueReply::Answered(answer) => Some(Said::Answer(*answer)),
+            DueReply::Refused(why) => Some(Said::Refused(*why)),
         }
     }
 
@@ -50,22 +50,22 @@ impl Due {
     pub(crate) fn complete(&mut self, id: &RequestId, answer: &Answer)
         ensures { self.new ≡ completed_due id.now answer.now self.old }
     {
-        if let Due::Pending(own) = self {
+        if let DueReply::Pending(own) = self {
             if *own == *id {
-                *self = Due::Answered(*answer);
+                *self = DueReply::Answered(*answer);
             }
         }
     }
 }
 
-impl Refusal {
+impl InvokeRefusal {
     /// The error that is replied.
     pub(crate) fn text(self) -> &'static [u8]
         ensures { result.now ≡ refusal_text self }
     {
         match self {
-            Refusal::Split => b"-ERR keys of several partitions\r\n",
-            Refusal::Spent => b"-ERR no more requests\r\n",
+            InvokeRefusal::Split => b"-ERR keys of several partitions\r\n",
+            InvokeRefusal::Spent => b"-ERR no more requests\r\n",
         }
     }
 }

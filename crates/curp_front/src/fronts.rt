@@ -1,11 +1,11 @@
 ghost use Rattle.std.specs.Prelude.{◌≡◌, ◌↔◌, [], true, length, map, OnOk, OnErr, IfOk};
 ghost use Rattle.curp_front.specs.Conversation.{completed};
 ghost use Rattle.curp_front.specs.Fronts.{after_output, after_taking, bytes_came, ended, is_full, next_output, next_taken, settled_in};
-ghost use Rattle.curp_front.specs.declared.due.Due.TheVariants as due;
+ghost use Rattle.curp_front.specs.declared.due.DueReply.TheVariants as due;
 
 use crate::connection::Connection;
 use crate::connections::{Admitted, add_bytes, complete, end, settle, take_command, take_output};
-use crate::due::{Due, Refusal};
+use crate::due::{DueReply, InvokeRefusal};
 use crate::output::FrontOutput;
 use curp_base::NoMemory;
 use curp_cmd::{Answer, Command, RequestId};
@@ -89,14 +89,14 @@ impl Fronts {
     pub fn on_invoked(&mut self, connection: u64, id: RequestId)
         ensures connections { self.new ≡ settled_in connection (due.Pending id) self.old }
     {
-        settle(&mut self.connections, connection, &Due::Pending(id));
+        settle(&mut self.connections, connection, &DueReply::Pending(id));
     }
 
     /// The client node has not invoked the first of those commands.
-    pub fn on_refused(&mut self, connection: u64, why: Refusal)
+    pub fn on_refused(&mut self, connection: u64, why: InvokeRefusal)
         ensures connections { self.new ≡ settled_in connection (due.Refused why) self.old }
     {
-        settle(&mut self.connections, connection, &Due::Refused(why));
+        settle(&mut self.connections, connection, &DueReply::Refused(why));
     }
 
     /// A request of the client node was completed. One that is of no connection, as those of an earlier process, changes

@@ -21,7 +21,7 @@ mod output;
 mod words;
 
 pub use connections::Admitted;
-pub use due::Refusal;
+pub use due::InvokeRefusal;
 pub use fronts::Fronts;
 pub use output::{FrontOutput, too_many_text};
 pub use words::{FrontInput, front_input_in, is_short, write_front_output};

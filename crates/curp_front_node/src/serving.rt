@@ -9,8 +9,8 @@ use curp_disk::Disk;
 use curp_durable::{Answered, Durable};
 use curp_filter::{FilterEnd, PassedOver, told_of, write_text};
 use curp_front::{
-    Admitted, FrontInput, FrontOutput, Fronts, Refusal, front_input_in, is_short, too_many_text,
-    write_front_output,
+    Admitted, FrontInput, FrontOutput, Fronts, InvokeRefusal, front_input_in, is_short,
+    too_many_text, write_front_output,
 };
 use curp_io::{Sink, Source};
 use curp_journal::{Arrived, is_own};
@@ -74,7 +74,7 @@ fn end_of(stop: &NextParcel) -> FilterEnd
 
 /// What was read ahead: inputs of the node, and what stands behind them, if the node isn't given it.
 #[derive(Drop)]
-struct Taken {
+struct ReadAhead {
     arrived: Vec<Arrived>,
     last: Option<PassedOver>,
 }
@@ -136,7 +136,7 @@ impl<'a, D: Disk> Server<'a, D> {
 
     /// Takes what is read ahead whole, up to what the node isn't given: inputs of the node are given back, and connections
     /// get what is theirs.
-    fn take(&mut self, parcels: &mut Parcels) -> Result<Taken, FilterEnd>
+    fn take(&mut self, parcels: &mut Parcels) -> Result<ReadAhead, FilterEnd>
         ensures { IfErr result IsOfNode }
     {
         let mut arrived = Vec::new(self.alloc);
@@ -149,14 +149,14 @@ impl<'a, D: Disk> Server<'a, D> {
                 NextParcel::Arrived(input) => {
                     if !is_own(NodeId::client(self.client), &input) {
                         let last = Some(PassedOver::Misdirected(input));
-                        return Ok(Taken { arrived, last });
+                        return Ok(ReadAhead { arrived, last });
                     }
                     add(&mut arrived, input)?;
                 }
                 NextParcel::NoParcel { at } => {
                     let Some(input) = front else {
                         let last = Some(PassedOver::NoParcel { at });
-                        return Ok(Taken { arrived, last });
+                        return Ok(ReadAhead { arrived, last });
                     };
                     self.take_front(&input)?;
                 }
@@ -166,7 +166,7 @@ impl<'a, D: Disk> Server<'a, D> {
                 _ => break,
             }
         }
-        Ok(Taken {
+        Ok(ReadAhead {
             arrived,
             last: None,
         })
@@ -233,7 +233,7 @@ impl<'a, D: Disk> Server<'a, D> {
     fn invoke(&mut self) -> Result<bool, FilterEnd>
         ensures { IfErr result IsOfNode }
     {
-        let Asked {
+        let AskedOrders {
             connections,
             orders,
         } = self.next_commands()?;
@@ -248,8 +248,8 @@ impl<'a, D: Disk> Server<'a, D> {
     }
 
     /// The next commands that connections ask for.
-    fn next_commands(&mut self) -> Result<Asked, NoMemory> {
-        let mut asked = Asked {
+    fn next_commands(&mut self) -> Result<AskedOrders, NoMemory> {
+        let mut asked = AskedOrders {
             connections: Vec::new(self.alloc),
             orders: Vec::new(self.alloc),
         };
@@ -324,7 +324,7 @@ impl<'a, D: Disk> Server<'a, D> {
 
 /// Commands that connections ask for, as orders, and the connection of each.
 #[derive(Drop)]
-struct Asked {
+struct AskedOrders {
     connections: Vec<u64>,
     orders: Vec<Arrived>,
 }
@@ -342,10 +342,10 @@ fn front_ahead(alloc: Global, parcels: &Parcels) -> Result<Option<FrontInput>, N
 }
 
 /// Why a command wasn't invoked, by the number of the refusal.
-fn refusal_of(number: u8) -> Refusal {
+fn refusal_of(number: u8) -> InvokeRefusal {
     if number == InvokeError::Split.number() {
-        Refusal::Split
+        InvokeRefusal::Split
     } else {
-        Refusal::Spent
+        InvokeRefusal::Spent
     }
 }

@@ -14,7 +14,7 @@ use curp_same::Same;
 
 /// The place of a message in its sender's journal.
 #[derive(Clone, Copy)]
-struct Place {
+struct SentPlace {
     from: NodeId,
     step: u64,
     stamp: u64,
@@ -60,7 +60,7 @@ fn after_item<'a>(
     let mut rest = items;
     let mut place = 1;
     for message in other.done.sent.as_slice() {
-        let name = Place {
+        let name = SentPlace {
             from,
             step,
             stamp: other.stamp,
@@ -77,7 +77,7 @@ fn after_item<'a>(
 }
 
 /// The same for one message.
-fn after_message<'a>(to: NodeId, items: &'a [Item], at: Place, message: &Message) -> Prefix<'a>
+fn after_message<'a>(to: NodeId, items: &'a [Item], at: SentPlace, message: &Message) -> Prefix<'a>
     ensures { IsPrefixBy at.from items.now
         (to_node to (record { from = at.from; step = at.step; place = at.place; stamp = at.stamp; message = message.now } ∷ []))
         result }
@@ -96,7 +96,7 @@ fn after_message<'a>(to: NodeId, items: &'a [Item], at: Place, message: &Message
 }
 
 /// Whether it is that message of that place.
-fn is_named(named: &Named, at: Place, message: &Message) -> bool
+fn is_named(named: &Named, at: SentPlace, message: &Message) -> bool
     ensures { IsTrue result ↔ (named.now
         ≡ record { from = at.from; step = at.step; place = at.place; stamp = at.stamp; message = message.now }) }
 {

@@ -6,13 +6,13 @@ use curp_journal::{Arrived, Item, Named};
 
 /// A message that was taken, and the items behind it.
 #[derive(Clone, Copy)]
-pub(crate) struct Taken<'a> {
+pub(crate) struct TakenMessage<'a> {
     pub named: &'a Named,
     pub left: &'a [Item],
 }
 
 /// The first message that these items took of a node.
-pub(crate) fn next_taken<'a>(items: &'a [Item], from: NodeId) -> Option<Taken<'a>>
+pub(crate) fn next_taken<'a>(items: &'a [Item], from: NodeId) -> Option<TakenMessage<'a>>
     ensures { MatchOption result (taken_of from items.now ≡ [])
         (λ taken. (taken_of from items.now ≡ taken.named.now ∷ taken_of from taken.left.now)
         × (taken.named.now.from ≡ from)) }
@@ -22,7 +22,7 @@ pub(crate) fn next_taken<'a>(items: &'a [Item], from: NodeId) -> Option<Taken<'a
         index += 1;
         if let Arrived::Message(named) = &item.input {
             if named.from == from {
-                return Some(Taken {
+                return Some(TakenMessage {
                     named,
                     left: &items[index..],
                 });

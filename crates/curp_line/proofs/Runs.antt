@@ -14,7 +14,7 @@ use Rattle.curp_line.specs.Cuts.{mark_of}
 use Rattle.curp_line.specs.Slots.{StandsWithin, asked, in_runs, is_shown_slot, marks_behind, marks_from, shown_of}
 use Rattle.curp_line.specs.declared.cuts.Cut.{Cut}
 use Rattle.curp_line.specs.declared.slot.ShownMark.{ShownMark}
-use Rattle.curp_line.specs.declared.slot.Slot.{Slot}
+use Rattle.curp_line.specs.declared.slot.MarkSlot.{MarkSlot}
 use Rattle.curp_line.proofs.Ascending.{each_read}
 use Rattle.curp_line.proofs.Between.{none_passes}
 use Rattle.curp_line.proofs.Kept.{shown_in_slots}
@@ -110,25 +110,25 @@ bounded_after key most xs ys moved h =
 
 -- ---- the order of the marks
 
-asked_append : (xs ys : List Slot) → map asked (map shown_of (filter is_shown_slot (xs ++ ys))) ≡ map asked (map shown_of (filter is_shown_slot xs)) ++ map asked (map shown_of (filter is_shown_slot ys))
+asked_append : (xs ys : List MarkSlot) → map asked (map shown_of (filter is_shown_slot (xs ++ ys))) ≡ map asked (map shown_of (filter is_shown_slot xs)) ++ map asked (map shown_of (filter is_shown_slot ys))
 asked_append xs ys =
-    ap (λ (ss : List Slot). map asked (map shown_of ss)) (filter-append is_shown_slot xs ys)
+    ap (λ (ss : List MarkSlot). map asked (map shown_of ss)) (filter-append is_shown_slot xs ys)
     ∙ ap (map asked) (map-append shown_of (filter is_shown_slot xs) (filter is_shown_slot ys))
     ∙ map-append asked (map shown_of (filter is_shown_slot xs)) (map shown_of (filter is_shown_slot ys))
 
-shown_from : (n : ℕ) (cuts : List Cut) (slots : List Slot) → shown (marks_from n cuts slots) ≡ map asked (map shown_of (filter is_shown_slot (in_runs (λ s. s.cuts_before) n (length cuts) slots)))
-shown_from n [] slots = shown_in_slots (filter (λ (s : Slot). s.cuts_before == n) slots)
+shown_from : (n : ℕ) (cuts : List Cut) (slots : List MarkSlot) → shown (marks_from n cuts slots) ≡ map asked (map shown_of (filter is_shown_slot (in_runs (λ s. s.cuts_before) n (length cuts) slots)))
+shown_from n [] slots = shown_in_slots (filter (λ (s : MarkSlot). s.cuts_before == n) slots)
 shown_from n (c ∷ cuts) slots =
     shown_append (marks_behind n slots) (mark_of c ∷ marks_from (suc n) cuts slots)
-    ∙ ap (λ rs. rs ++ shown (marks_from (suc n) cuts slots)) (shown_in_slots (filter (λ (s : Slot). s.cuts_before == n) slots))
-    ∙ ap (λ rs. map asked (map shown_of (filter is_shown_slot (filter (λ (s : Slot). s.cuts_before == n) slots))) ++ rs) (shown_from (suc n) cuts slots)
-    ∙ sym (asked_append (filter (λ (s : Slot). s.cuts_before == n) slots) (in_runs (λ s. s.cuts_before) (suc n) (length cuts) slots))
+    ∙ ap (λ rs. rs ++ shown (marks_from (suc n) cuts slots)) (shown_in_slots (filter (λ (s : MarkSlot). s.cuts_before == n) slots))
+    ∙ ap (λ rs. map asked (map shown_of (filter is_shown_slot (filter (λ (s : MarkSlot). s.cuts_before == n) slots))) ++ rs) (shown_from (suc n) cuts slots)
+    ∙ sym (asked_append (filter (λ (s : MarkSlot). s.cuts_before == n) slots) (in_runs (λ s. s.cuts_before) (suc n) (length cuts) slots))
 
 -- what the order shows are the runs of what the slots show
-pub shown_in_runs : (cuts : List Cut) (slots : List Slot) → shown (marks_from 0 cuts slots) ≡ map asked (in_runs (λ s. s.cuts_before) 0 (length cuts) (map shown_of (filter is_shown_slot slots)))
+pub shown_in_runs : (cuts : List Cut) (slots : List MarkSlot) → shown (marks_from 0 cuts slots) ≡ map asked (in_runs (λ s. s.cuts_before) 0 (length cuts) (map shown_of (filter is_shown_slot slots)))
 shown_in_runs cuts slots = shown_from 0 cuts slots ∙ sym (ap (map asked) (runs_made (λ (s : ShownMark). s.cuts_before) shown_of is_shown_slot 0 (length cuts) slots))
 
-pub shown_within : (cuts : ℕ) (slots : List Slot) → Each (StandsWithin cuts) slots → Each (λ s. s.cuts_before ≤ cuts) (map shown_of (filter is_shown_slot slots))
+pub shown_within : (cuts : ℕ) (slots : List MarkSlot) → Each (StandsWithin cuts) slots → Each (λ s. s.cuts_before ≤ cuts) (map shown_of (filter is_shown_slot slots))
 shown_within cuts slots h =
     Each-map (λ (s : ShownMark). s.cuts_before ≤ cuts) shown_of (filter is_shown_slot slots)
-    (Each-filter (λ (s : Slot). s.cuts_before ≤ cuts) is_shown_slot slots (Each-weaker (StandsWithin cuts) (λ (s : Slot). s.cuts_before ≤ cuts) (λ s w. w.within) slots h))
+    (Each-filter (λ (s : MarkSlot). s.cuts_before ≤ cuts) is_shown_slot slots (Each-weaker (StandsWithin cuts) (λ (s : MarkSlot). s.cuts_before ≤ cuts) (λ s w. w.within) slots h))

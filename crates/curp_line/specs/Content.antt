@@ -2,14 +2,14 @@
 use Rattle.std.specs.Prelude.{ℕ, List}
 use Rattle.curp_model.specs.Marks.{Mark}
 use Rattle.curp_line.specs.declared.cuts.Cut.{Cut}
-use Rattle.curp_line.specs.declared.slot.Slot.{Slot}
+use Rattle.curp_line.specs.declared.slot.MarkSlot.{MarkSlot}
 
 pub record Marking : Type 0 where
   pub marks : List Mark
   pub spare : ℕ
 
 pub record Slotted : Type 0 where
-  pub slots : List Slot
+  pub slots : List MarkSlot
   pub spare : ℕ
 
 pub record Adoptions : Type 0 where

@@ -5,7 +5,7 @@ ghost use Rattle.curp_model.specs.Marks.{is_dropped, looked, quick, replayed_mar
 use crate::cuts::Cuts;
 use crate::mark::{KeptMark, MarkPlace};
 use crate::slot::in_order;
-use crate::slots::Slots;
+use crate::slots::MarkSlots;
 use crate::term::Term;
 use curp_base::{NoMemory, Shared};
 use curp_cmd::{KeptCommand, Request, RequestId, Standby};
@@ -23,7 +23,7 @@ use std::marker::Model;
 /// marks that ever came.
 pub struct Line {
     alloc: Global,
-    slots: Slots,
+    slots: MarkSlots,
     cuts: Cuts,
 }
 
@@ -60,7 +60,7 @@ impl Line {
     {
         Line {
             alloc,
-            slots: Slots::new(alloc),
+            slots: MarkSlots::new(alloc),
             cuts: Cuts::new(alloc),
         }
     }

@@ -13,7 +13,7 @@ use std::alloc::Global;
 /// A place in the order in which the marks came. It stays when its mark is dropped, so that the places of the others
 /// stay what they are.
 #[derive(Drop)]
-pub struct Slot {
+pub struct MarkSlot {
     pub mark: KeptMark,
     /// How many of the adoptions the mark stands behind.
     pub cuts_before: usize,
@@ -22,7 +22,7 @@ pub struct Slot {
     pub earlier_of_part: Option<usize>,
 }
 
-impl Slot {
+impl MarkSlot {
     /// Flags the mark, if the completion means it.
     pub fn flag(&mut self, completed: &Completed)
         ensures { self.new ≡ flagged_slot completed.now self.old }
@@ -76,7 +76,7 @@ pub struct ShownMark {
 }
 
 /// What the marks that the order shows are of, in the order in which they came.
-pub fn shown(alloc: Global, slots: &[Slot]) -> Result<Vec<ShownMark>, NoMemory>
+pub fn shown(alloc: Global, slots: &[MarkSlot]) -> Result<Vec<ShownMark>, NoMemory>
     ensures { IfOk result (λ shown. shown.items ≡ map shown_of (filter is_shown_slot slots.now)) }
 {
     let mut shown = Vec::new(alloc);
@@ -106,7 +106,7 @@ pub fn in_order(
 }
 
 /// Flags the marks that the completion means. It looks at the slots of that request alone, whose last one is given.
-pub fn flag_marks(slots: &mut [Slot], latest: Option<usize>, completed: &Completed)
+pub fn flag_marks(slots: &mut [MarkSlot], latest: Option<usize>, completed: &Completed)
     requires linked { RequestsLinked slots.old }
     requires latest { latest ≡ last_place (is_of_request completed.now.id) slots.old }
     ensures { slots.new ≡ map (flagged_slot completed.now) slots.old }
@@ -121,7 +121,7 @@ pub fn flag_marks(slots: &mut [Slot], latest: Option<usize>, completed: &Complet
 
 /// Drops the partition's marks that go at its adoption. It looks at the slots of that partition alone, whose last one
 /// is given.
-pub fn drop_marks(slots: &mut [Slot], latest: Option<usize>, part: u32, cut: u64)
+pub fn drop_marks(slots: &mut [MarkSlot], latest: Option<usize>, part: u32, cut: u64)
     requires linked { PartsLinked slots.old }
     requires latest { latest ≡ last_place (is_of_part part) slots.old }
     ensures { slots.new ≡ map (dropped_slot part cut) slots.old }
@@ -136,7 +136,7 @@ pub fn drop_marks(slots: &mut [Slot], latest: Option<usize>, part: u32, cut: u64
 
 /// Whether the request has completed by one of its marks. It looks at the slots of that request alone, whose last one
 /// is given.
-pub fn has_completed(slots: &[Slot], latest: Option<usize>, id: &RequestId) -> bool
+pub fn has_completed(slots: &[MarkSlot], latest: Option<usize>, id: &RequestId) -> bool
     requires linked { RequestsLinked slots.now }
     requires latest { latest ≡ last_place (is_of_request id.now) slots.now }
     ensures { result ≡ list_any (completes id.now) slots.now }

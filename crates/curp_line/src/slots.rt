@@ -4,7 +4,7 @@ ghost use Rattle.curp_line.specs.Slots.{completes, dropped_slot, flagged_slot, i
 
 use crate::key::RequestKey;
 use crate::mark::KeptMark;
-use crate::slot::{ShownMark, Slot, drop_marks, flag_marks, has_completed, shown};
+use crate::slot::{MarkSlot, ShownMark, drop_marks, flag_marks, has_completed, shown};
 use curp_base::NoMemory;
 use curp_cmd::RequestId;
 use curp_msg::Completed;
@@ -18,14 +18,14 @@ use std::marker::Model;
 /// The slots of one request, and those of one partition, are found from the last one back to the first (this project's
 /// own choice).
 #[derive(Drop)]
-pub struct Slots {
-    list: Vec<Slot>,
+pub struct MarkSlots {
+    list: Vec<MarkSlot>,
     // The last slot of each request, and of each partition.
     requests: HashMap<RequestKey, usize>,
     parts: HashMap<u32, usize>,
 }
 
-impl Model for Slots {
+impl Model for MarkSlots {
     ghost use Rattle.std.specs.Prelude.{◌==◌, ◌-◌, min, vec_len, vec_capacity};
     ghost use Rattle.std.specs.HashMap.{get, spare};
     ghost use Rattle.curp_cmd.specs.RequestId.{same_id};
@@ -45,12 +45,12 @@ impl Model for Slots {
         s.list.items };
 }
 
-impl Slots {
+impl MarkSlots {
     /// No slots. It takes no memory.
-    pub fn new(alloc: Global) -> Slots
+    pub fn new(alloc: Global) -> MarkSlots
         ensures { result.slots ≡ [] }
     {
-        Slots {
+        MarkSlots {
             list: Vec::new(alloc),
             requests: HashMap::new(alloc),
             parts: HashMap::new(alloc),
@@ -78,7 +78,7 @@ impl Slots {
         let at = self.list.len();
         let of_request: Result<_, _> = self.requests.insert(RequestKey(mark.id()), at);
         let of_part: Result<_, _> = self.parts.insert(mark.part(), at);
-        self.list.push_reserved(Slot {
+        self.list.push_reserved(MarkSlot {
             mark,
             cuts_before,
             dropped: false,

@@ -2,10 +2,10 @@
 use crate::board::Board;
 use crate::chores::{ClientChores, MasterChores};
 use crate::deeds::Deed;
-use crate::drive::Reach;
+use crate::drive::DriverPosts;
 use crate::teller::{Speaker, Teller};
 use curp_base::NoMemory;
-use curp_desk::{Carry, Desk, Drive, Posts, Work};
+use curp_desk::{Carry, Desk, Drive, Posts, Serve};
 use curp_msg::Core;
 use curp_nodes::{BackupNode, ClientNode, ManagerNode, MasterNode, WitnessNode};
 use curp_ruled::Take;
@@ -39,8 +39,8 @@ pub(crate) struct Worker<'s, 'w, G> {
     pub duty: Duty<'s, 'w>,
 }
 
-impl<'s, 'w, G: Observer> Work for Worker<'s, 'w, G> {
-    fn work<R: Wait>(self, rt: &R, take: Take) {
+impl<'s, 'w, G: Observer> Serve for Worker<'s, 'w, G> {
+    fn serve<R: Wait>(self, rt: &R, take: Take) {
         let floor = self.floor;
         match self.duty {
             Duty::Manager(desk) => floor.serve(rt, desk, take, NoChores, Speaker::Other),
@@ -111,7 +111,7 @@ impl<'s> Drive for Driver<'s> {
             deeds,
             board,
         } = self;
-        let mut reach = Reach {
+        let mut reach = DriverPosts {
             alloc,
             board,
             posts,

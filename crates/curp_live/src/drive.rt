@@ -6,19 +6,19 @@ use curp_cmd::NodeId;
 use curp_desk::Posts;
 use curp_journal::Arrived;
 use curp_msg::Local;
-use curp_ruled::Parcel;
+use curp_ruled::Envelope;
 use std::alloc::Global;
 use std::sync::Wait;
 
 /// How the driver reaches the nodes: by its posts. A node is stopped by its end.
 #[derive(Drop)]
-pub(crate) struct Reach<'p> {
+pub(crate) struct DriverPosts<'p> {
     pub alloc: Global,
     pub board: &'p Board,
     pub posts: &'p mut Posts,
 }
 
-impl<'p> Reach<'p> {
+impl<'p> DriverPosts<'p> {
     /// Does all of these.
     pub(crate) fn drive<R: Wait>(&mut self, rt: &R, deeds: Vec<Deed>) -> Result<(), NoMemory> {
         let mut stamp = 0;
@@ -51,8 +51,8 @@ impl<'p> Reach<'p> {
         stamp: u64,
     ) -> Result<(), NoMemory> {
         let number = self.posts.sender();
-        let parcel = Parcel::new(self.alloc, number, Arrived::Local(order, stamp))?;
-        self.posts.send(rt, to, parcel);
+        let envelope = Envelope::new(self.alloc, number, Arrived::Local(order, stamp))?;
+        self.posts.send(rt, to, envelope);
         Ok(())
     }
 }

@@ -32,7 +32,7 @@ pub fn live<R: Threads + Wait + Sync, G: Observer + Sync>(
     live_in_rooms(rt, alloc, ROOM, plan, work, observer)
 }
 
-/// The same, with room for so many parcels in each inbox. Any room does.
+/// The same, with room for so many envelopes in each inbox. Any room does.
 pub fn live_in_rooms<R: Threads + Wait + Sync, G: Observer + Sync>(
     rt: &R,
     alloc: Global,

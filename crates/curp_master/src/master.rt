@@ -13,7 +13,7 @@ use curp_master_log::MasterLog;
 use curp_model::Wish;
 use curp_msg::{Body, Done, Local, Message};
 use curp_rounds::acknowledged::{Acknowledged, all_at, least_length, set_all};
-use curp_rounds::{Captured, Captures, Indexes, Phase};
+use curp_rounds::{Captured, Captures, Indexes, MasterPhase};
 use curp_tail::Queue;
 use std::alloc::Global;
 use std::marker::Model;
@@ -34,7 +34,7 @@ pub struct Master {
     pub(crate) captures: Captures,
     pub(crate) held: Indexes,
     pub(crate) queue: Queue,
-    pub(crate) phase: Phase,
+    pub(crate) phase: MasterPhase,
 }
 
 impl Drop for Master {
@@ -161,7 +161,7 @@ impl Master {
             captures: Captures::new(alloc),
             held: Indexes::new(alloc),
             queue: Queue::new(alloc),
-            phase: Phase::Open,
+            phase: MasterPhase::Open,
         }
     }
 

@@ -11,7 +11,7 @@ use curp_cmd::{Entry, NodeId};
 use curp_master_log::suffix_with;
 use curp_msg::{Append, Done, Message};
 use curp_rounds::acknowledged::{least_length, length_from};
-use curp_rounds::{Phase, messages};
+use curp_rounds::{MasterPhase, messages};
 
 impl Master {
     /// A round begins.
@@ -36,7 +36,7 @@ impl Master {
     /// The next round of that phase.
     pub(crate) fn next_round_in(
         &self,
-        phase: &Phase,
+        phase: &MasterPhase,
         more: &[Entry],
     ) -> Result<Option<Round>, NoMemory>
         ensures { IfOk result (λ round. IsNextRound (in_phase self.now (phase_of phase.now)) more.now round) }
@@ -51,7 +51,12 @@ impl Master {
     }
 
     // What a round sends, with these entries behind the log. What the backups lack is read of the log once.
-    fn appends(&self, phase: &Phase, round: u64, more: &[Entry]) -> Result<Vec<Message>, NoMemory>
+    fn appends(
+        &self,
+        phase: &MasterPhase,
+        round: u64,
+        more: &[Entry],
+    ) -> Result<Vec<Message>, NoMemory>
         ensures { IfOk result (λ sent. sent.items ≡ appends self.now.number
             (at_round (in_phase self.now (phase_of phase.now)).state round more.now)) }
     {

@@ -11,7 +11,7 @@ use curp_base::NoMemory;
 use curp_master_log::in_prefix;
 use curp_msg::{Done, Message, Prepare};
 use curp_rounds::acknowledged::least_length;
-use curp_rounds::{Phase, Switch, messages};
+use curp_rounds::{MasterPhase, Switch, messages};
 use std::mem::replace;
 
 impl Master {
@@ -45,8 +45,9 @@ impl Master {
             (move_of self.old (prepare_in self.old.number self.old.state prepare.now self.old.state.phase)) }
     {
         match &self.phase {
-            Phase::Open if self.version < prepare.version => self.switch_to(prepare),
-            Phase::Switching(switch) if switch.version == prepare.version => self.begin_round(),
+            MasterPhase::Open if self.version < prepare.version => self.switch_to(prepare),
+            MasterPhase::Switching(switch) if switch.version == prepare.version =>
+                self.begin_round(),
             _ => Ok(Done::quiet(self.alloc)),
         }
     }
@@ -59,7 +60,7 @@ impl Master {
         let Some(number) = self.round.checked_add(1) else {
             return Ok(Done::quiet(self.alloc));
         };
-        let phase = Phase::Switching(Switch {
+        let phase = MasterPhase::Switching(Switch {
             version: prepare.version,
             backups: prepare.backups.copy(self.alloc)?,
             witnesses: prepare.witnesses.copy(self.alloc)?,
@@ -92,7 +93,7 @@ impl Master {
         ensures { IfOk result (λ next. IsSettledNext self.now version (next_lists version self.now.state.phase) next) }
     {
         match &self.phase {
-            Phase::Switching(switch) if switch.version == version => {
+            MasterPhase::Switching(switch) if switch.version == version => {
                 let backups = switch.backups.as_slice();
                 Ok(Some(Settled {
                     synced: least_length(&self.acknowledged, backups),
@@ -111,7 +112,7 @@ impl Master {
         ensures err { OnErr result (self.new ≡ self.old) }
     {
         self.master_log.settle_anew(synced)?;
-        if let Phase::Switching(switch) = replace(&mut self.phase, Phase::Open) {
+        if let MasterPhase::Switching(switch) = replace(&mut self.phase, MasterPhase::Open) {
             self.version = switch.version;
             self.backups = switch.backups.into_vec();
             self.witnesses = switch.witnesses.into_vec();

@@ -6,7 +6,7 @@
 //! - `Captures` are in the order in which they were captured: `push`, `remove_ready` and `tell_ready` exact; `push`
 //!   takes no memory, and `reserve` makes its room. `Indexes` ascend: `insert`, `push`, `contains`, `below`,
 //!   `remove_below`: exact.
-//! - `Phase`: whether the master is open, to which backups a round goes, and how far the next list is: exact.
+//! - `MasterPhase`: whether the master is open, to which backups a round goes, and how far the next list is: exact.
 //!   `messages`: each message, in the master's name.
 #![tactic(auto)]
 
@@ -20,4 +20,4 @@ mod phase;
 pub use captured::Captured;
 pub use captures::Captures;
 pub use indexes::Indexes;
-pub use phase::{Phase, Switch};
+pub use phase::{MasterPhase, Switch};

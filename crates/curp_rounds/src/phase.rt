@@ -11,7 +11,7 @@ use std::alloc::Global;
 
 /// Whether the master is open to requests.
 #[derive(Drop)]
-pub enum Phase {
+pub enum MasterPhase {
     /// It is.
     Open,
     /// It takes up new lists.
@@ -33,14 +33,14 @@ pub struct Switch {
     pub prepared: bool,
 }
 
-impl Phase {
+impl MasterPhase {
     /// Whether it is open.
     pub fn is_open(&self) -> bool
         ensures { result ≡ master.is_open (phase_of self.now) }
     {
         match self {
-            Phase::Open => true,
-            Phase::Switching(_) => false,
+            MasterPhase::Open => true,
+            MasterPhase::Switching(_) => false,
         }
     }
 
@@ -49,8 +49,8 @@ impl Phase {
         ensures { result ≡ is_among backup.now (backups.now ++ fresh_backups (phase_of self.now) backups.now) }
     {
         match self {
-            Phase::Open => is_among(backup, backups),
-            Phase::Switching(switch) => {
+            MasterPhase::Open => is_among(backup, backups),
+            MasterPhase::Switching(switch) => {
                 is_among(backup, backups) || is_among(backup, switch.backups.as_slice())
             }
         }
@@ -61,7 +61,7 @@ impl Phase {
         ensures { IfOk result (λ all. all.items ≡ backups.now ++ fresh_backups (phase_of self.now) backups.now) }
     {
         let mut all = Vec::from_slice(alloc, backups)?;
-        if let Phase::Switching(switch) = self {
+        if let MasterPhase::Switching(switch) = self {
             add_fresh(&mut all, switch.backups.as_slice(), backups)?;
         }
         Ok(all)
@@ -72,7 +72,7 @@ impl Phase {
         ensures { result ≡ told_version (phase_of self.now) }
     {
         match self {
-            Phase::Switching(switch) if switch.prepared => Some(switch.version),
+            MasterPhase::Switching(switch) if switch.prepared => Some(switch.version),
             _ => None,
         }
     }
@@ -82,7 +82,9 @@ impl Phase {
         ensures { result ≡ ready_version long acknowledged.now (phase_of self.now) }
     {
         match self {
-            Phase::Switching(switch) if switch.is_ready(long, acknowledged) => Some(switch.version),
+            MasterPhase::Switching(switch) if switch.is_ready(long, acknowledged) => Some(
+                switch.version,
+            ),
             _ => None,
         }
     }
@@ -91,7 +93,7 @@ impl Phase {
     pub fn note_prepared(&mut self)
         ensures { phase_of self.new ≡ told (phase_of self.old) }
     {
-        if let Phase::Switching(switch) = self {
+        if let MasterPhase::Switching(switch) = self {
             switch.prepared = true;
         }
     }

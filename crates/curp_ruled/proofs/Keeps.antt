@@ -8,9 +8,9 @@ use native.Mathlib.Decide.{ℕ_discrete, dec_le}
 use lib.ListN.{get_elem?}
 use Rattle.std.specs.Prelude.{filter, slice_index_or}
 use Rattle.crossbeam_channel.specs.Fifo.{Pushes, Pops, Forks, Merges, Learns}
-use Rattle.curp_ruled.specs.Parcel.{Letter}
+use Rattle.curp_ruled.specs.Envelope.{Letter}
 use Rattle.curp_ruled.specs.declared.rule.Hand.{Hand}
-use Rattle.curp_ruled.specs.Rule.{of, taker, sender_of, spent, after_send, after_take, after_seat, after_leave, FitsSender, FitsTaker, DeliversParcels, AreDelivered}
+use Rattle.curp_ruled.specs.Rule.{of, taker, sender_of, spent, after_send, after_take, after_seat, after_leave, FitsSender, FitsTaker, DeliversEnvelopes, AreDelivered}
 
 -- after a change of one, it is that one, or one of the others
 at_set : {A : Type 0} (l : List A) (i j : ℕ) (a b : A) → get_elem? (set l i a) j ≡ some b → ((j ≡ i) × (a ≡ b)) ⊎ ((j ≢ i) × (get_elem? l j ≡ some b))
@@ -78,7 +78,7 @@ prefix_nil : (xs ys : List Letter) → xs ++ ys ≡ [] → xs ≡ []
 prefix_nil [] ys e = refl
 prefix_nil (x ∷ xs) ys e = absurd (suc_apart (ap length e))
 
-pub begins : DeliversParcels [] (taker ∷ [])
+pub begins : DeliversEnvelopes [] (taker ∷ [])
 begins = (
   0,
   (λ _. none),
@@ -90,7 +90,7 @@ begins = (
       (λ j u other e. absurd (nothing_else taker u j other e)),
 )
 
-pub sends : (n pass : ℕ) (v : Hand) (x : Letter) → v.sends ≡ true → x.sender ≡ v.number → Pushes DeliversParcels n pass v x (λ w. w ≡ after_send v x)
+pub sends : (n pass : ℕ) (v : Hand) (x : Letter) → v.sends ≡ true → x.sender ≡ v.number → Pushes DeliversEnvelopes n pass v x (λ w. w ≡ after_send v x)
 sends n pass v x may own items views _ h at =
     let seat : ℕ → Option ℕ = h.1 in
     let was : ℕ → List Letter = h.2 in
@@ -120,7 +120,7 @@ sends n pass v x may own items views _ h at =
       refl,
     )
 
-pub takes : (pass : ℕ) (v : Hand) → v.takes ≡ true → Pops DeliversParcels pass v (λ x w. w ≡ after_take v x)
+pub takes : (pass : ℕ) (v : Hand) → v.takes ≡ true → Pops DeliversEnvelopes pass v (λ x w. w ≡ after_take v x)
 takes pass v may x items views h at =
     let mine = h.5 pass v at in
     let taken : List Letter = h.3 ++ x ∷ [] in
@@ -139,7 +139,7 @@ takes pass v may x items views h at =
       refl,
     )
 
-pub seats : (pass : ℕ) (v : Hand) → v.takes ≡ true → Forks DeliversParcels pass v (after_seat v) (sender_of v.made)
+pub seats : (pass : ℕ) (v : Hand) → v.takes ≡ true → Forks DeliversEnvelopes pass v (after_seat v) (sender_of v.made)
 seats pass v may items views h at =
     let mine = h.5 pass v at in
     let k = mine.1 may in
@@ -173,7 +173,7 @@ seats pass v may items views h at =
           (at_added vs right u j e),
     )
 
-pub leaves : (pass : ℕ) (v : Hand) (other : ℕ) (w : Hand) → v.takes ≡ true → w.sends ≡ true → w.number ≡ length v.left → Merges DeliversParcels pass v other w (after_leave v w) spent
+pub leaves : (pass : ℕ) (v : Hand) (other : ℕ) (w : Hand) → v.takes ≡ true → w.sends ≡ true → w.number ≡ length v.left → Merges DeliversEnvelopes pass v other w (after_leave v w) spent
 leaves pass v other w may sends next items views h at two at' =
     let both : Hand = after_leave v w in
     let mine = h.5 pass v at in
@@ -212,7 +212,7 @@ leaves pass v other w may sends next items views h at two at' =
       all_set F vs other spent ((λ s. absurd (true≢false (sym s))), λ t. absurd (true≢false (sym t))) (λ j u ne e. now j u e ne),
     )
 
-pub learns : (pass : ℕ) (v : Hand) → v.takes ≡ true → Learns DeliversParcels pass v (λ items. AreDelivered v)
+pub learns : (pass : ℕ) (v : Hand) → v.takes ≡ true → Learns DeliversEnvelopes pass v (λ items. AreDelivered v)
 learns pass v may items views h at =
     let k = (h.5 pass v at).1 may in
     let whole : (p : ℕ) → of p v.taken ++ of p items ≡ h.2 p = λ p. ap (λ l. of p l ++ of p items) k.1 ∙ sym (filter-append (λ (y : Letter). eqb y.sender p) h.3 items) ∙ h.4 p in (

@@ -10,7 +10,7 @@ use Rattle.crossbeam_channel.specs.declared.flavors.array.Lockers.{Lockers}
 use Rattle.crossbeam_channel.specs.declared.flavors.array.Whole.{Whole}
 use Rattle.curp_base.specs.Words.{At}
 use Rattle.curp_cmd.specs.declared.node.NodeId.{NodeId}
-use Rattle.curp_ruled.specs.Parcel.{Letter}
+use Rattle.curp_ruled.specs.Envelope.{Letter}
 use Rattle.curp_ruled.specs.declared.rule.Hand.{Hand}
 use Rattle.curp_ruled.specs.declared.rule.InOrder.{InOrder}
 

@@ -1,4 +1,4 @@
 pub mod Ends
+pub mod Envelope
 pub mod Load
-pub mod Parcel
 pub mod Rule

@@ -2,8 +2,8 @@
 use Rattle.std.specs.Prelude.{Option, Some, None}
 use Rattle.curp_journal.specs.declared.arrived.Arrived.{Arrived}
 use Rattle.curp_journal.specs.declared.arrived.Arrived.TheVariants as arrived
-use Rattle.curp_ruled.specs.declared.parcel.Load.{Load}
-use Rattle.curp_ruled.specs.declared.parcel.Load.TheVariants as load
+use Rattle.curp_ruled.specs.declared.envelope.Load.{Load}
+use Rattle.curp_ruled.specs.declared.envelope.Load.TheVariants as load
 
 -- the input for a node; none at a sender's end
 abbrev pub loaded_input : Load → Option Arrived

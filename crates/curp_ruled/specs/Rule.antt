@@ -4,7 +4,7 @@ use Rattle.std.specs.Prelude.{◌≡◌, ◌+◌, ◌<◌, ◌≤◌, ℕ, eqb, 
 use mathlib.Core.Option.{Option, some, none}
 use lib.ListN.{get_elem?}
 use Rattle.curp_base.specs.Words.{IsPrefix}
-use Rattle.curp_ruled.specs.Parcel.{Letter}
+use Rattle.curp_ruled.specs.Envelope.{Letter}
 use Rattle.curp_ruled.specs.declared.rule.Hand.{Hand}
 
 -- those of that sender, in order
@@ -57,8 +57,8 @@ FitsTaker reader seat sent taken pass hand =
 
 -- There are a reader, a pass for the number of each sender that has one, what each sent, and what was taken, so that of each
 -- sender what was taken and then what stands in the inbox is what it sent, and each pass knows its part
-abbrev pub DeliversParcels : List Letter → List Hand → Type 0
-DeliversParcels items hands =
+abbrev pub DeliversEnvelopes : List Letter → List Hand → Type 0
+DeliversEnvelopes items hands =
     (reader : ℕ) × (seat : ℕ → Option ℕ) × (sent : ℕ → List Letter) × (taken : List Letter)
     × ((k : ℕ) → of k (taken ++ items) ≡ sent k)
     × ((pass : ℕ) (hand : Hand) → get_elem? hands pass ≡ some hand → FitsSender seat sent pass hand × FitsTaker reader seat sent taken pass hand)

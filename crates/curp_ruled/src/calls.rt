@@ -4,13 +4,13 @@ ghost use Rattle.crossbeam_channel.specs.Ends.{sends_on, receives_on};
 ghost use Rattle.curp_ruled.specs.Rule.{after_send, after_take};
 
 use crate::rule::{Hand, InOrder, Sending, Taking};
-use crate::{Parcel, Post, Take};
+use crate::{Envelope, Post, Take};
 use crossbeam_channel::{Pass, RuledReceiver, RuledSender, SendError};
 use curp_cmd::NodeId;
 use std::sync::Wait;
 
 impl Post {
-    /// The number of its sender, which each parcel through it bears.
+    /// The number of its sender, which each envelope through it bears.
     pub fn number(&self) -> u32
         ensures { result ≡ self.now.number }
     {
@@ -24,12 +24,12 @@ impl Post {
         self.to
     }
 
-    /// Puts a parcel into the inbox. It waits for room, and returns only when the parcel stands there.
-    pub fn send<R: Wait>(&mut self, rt: &R, parcel: Parcel)
-        requires { parcel.sender ≡ self.old.number }
-        ensures { self.new ≡ record self.old { sent = self.old.sent ++ parcel ∷ [] } }
+    /// Puts an envelope into the inbox. It waits for room, and returns only when the envelope stands there.
+    pub fn send<R: Wait>(&mut self, rt: &R, envelope: Envelope)
+        requires { envelope.sender ≡ self.old.number }
+        ensures { self.new ≡ record self.old { sent = self.old.sent ++ envelope ∷ [] } }
     {
-        put(rt, &self.sender, &mut self.pass, parcel);
+        put(rt, &self.sender, &mut self.pass, envelope);
     }
 }
 
@@ -48,52 +48,52 @@ impl Take {
         self.posts
     }
 
-    /// Takes the oldest parcel. It waits for one, and returns only with one that it took.
-    pub fn receive<R: Wait>(&mut self, rt: &R) -> Parcel
+    /// Takes the oldest envelope. It waits for one, and returns only with one that it took.
+    pub fn receive<R: Wait>(&mut self, rt: &R) -> Envelope
         ensures { self.new ≡ record self.old { taken = self.old.taken ++ result ∷ [] } }
     {
         take(rt, &self.receiver, &mut self.pass)
     }
 }
 
-/// Sends until the parcel stands in the queue: where the channel hands it back, it is sent again.
+/// Sends until the envelope stands in the queue: where the channel hands it back, it is sent again.
 fn put<R: Wait>(
     rt: &R,
-    sender: &RuledSender<Parcel, Hand, InOrder>,
-    pass: &mut Pass<Parcel, Hand>,
-    parcel: Parcel,
+    sender: &RuledSender<Envelope, Hand, InOrder>,
+    pass: &mut Pass<Envelope, Hand>,
+    envelope: Envelope,
 )
     requires seated { IsSeatAt (sends_on sender.now) pass.old }
     requires sends { (view pass.old).sends ≡ true }
-    requires own { parcel.sender ≡ (view pass.old).number }
+    requires own { envelope.sender ≡ (view pass.old).number }
     ensures seated { IsSeatAt (sends_on sender.now) pass.new }
-    ensures sent { view pass.new ≡ after_send (view pass.old) parcel }
+    ensures sent { view pass.new ≡ after_send (view pass.old) envelope }
 {
-    let mut parcel = parcel;
+    let mut envelope = envelope;
     for _ in rt.forever() {
-        match sender.send_as::<Sending, R>(rt, pass, parcel) {
+        match sender.send_as::<Sending, R>(rt, pass, envelope) {
             Ok(()) => return,
-            Err(SendError::Disconnected(back)) => parcel = back,
-            Err(SendError::OutOfMemory(back)) => parcel = back,
+            Err(SendError::Disconnected(back)) => envelope = back,
+            Err(SendError::OutOfMemory(back)) => envelope = back,
         }
     }
     unreachable!()
 }
 
-/// Receives until a parcel was taken.
+/// Receives until an envelope was taken.
 fn take<R: Wait>(
     rt: &R,
-    receiver: &RuledReceiver<Parcel, Hand, InOrder>,
-    pass: &mut Pass<Parcel, Hand>,
-) -> Parcel
+    receiver: &RuledReceiver<Envelope, Hand, InOrder>,
+    pass: &mut Pass<Envelope, Hand>,
+) -> Envelope
     requires seated { IsSeatAt (receives_on receiver.now) pass.old }
     requires takes { (view pass.old).takes ≡ true }
     ensures seated { IsSeatAt (receives_on receiver.now) pass.new }
     ensures taken { view pass.new ≡ after_take (view pass.old) result }
 {
     for _ in rt.forever() {
-        if let Ok(parcel) = receiver.recv_as::<Taking, R>(rt, pass) {
-            return parcel;
+        if let Ok(envelope) = receiver.recv_as::<Taking, R>(rt, pass) {
+            return envelope;
         }
     }
     unreachable!()

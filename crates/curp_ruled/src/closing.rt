@@ -6,7 +6,7 @@ ghost use Rattle.curp_ruled.specs.Ends.{AreAllOf, Posted};
 ghost use Rattle.curp_ruled.specs.Rule.{of};
 
 use crate::rule::{Closing, Hand, InOrder, Seating};
-use crate::{Closed, Parcel, Post, Take};
+use crate::{Closed, Envelope, Post, Take};
 use crossbeam_channel::{Pass, RuledSender};
 
 /// Ends an inbox. What was taken of each sender is a prefix of what it sent: whole, once, and in its order. It takes no
@@ -32,8 +32,8 @@ pub fn close(posts: Vec<Post>, take: Take) -> Closed
 
 /// Joins the passes of posts, which are of the numbers from 0 on.
 fn leave_all(
-    sender: &RuledSender<Parcel, Hand, InOrder>,
-    pass: &mut Pass<Parcel, Hand>,
+    sender: &RuledSender<Envelope, Hand, InOrder>,
+    pass: &mut Pass<Envelope, Hand>,
     posts: Vec<Post>,
 )
     requires seated { IsSeatAt (sends_on sender.now) pass.old }
@@ -50,7 +50,7 @@ fn leave_all(
 }
 
 /// Joins the pass of the post of the next number.
-fn leave(sender: &RuledSender<Parcel, Hand, InOrder>, pass: &mut Pass<Parcel, Hand>, post: Post)
+fn leave(sender: &RuledSender<Envelope, Hand, InOrder>, pass: &mut Pass<Envelope, Hand>, post: Post)
     requires seated { IsSeatAt (sends_on sender.now) pass.old }
     requires takes { (view pass.old).takes ≡ true }
     requires inbox { post.inbox ≡ sends_on sender.now }

@@ -1,4 +1,4 @@
-use crate::Parcel;
+use crate::Envelope;
 use crate::rule::{Hand, InOrder};
 use crossbeam_channel::{Pass, RuledReceiver, RuledSender};
 use curp_cmd::NodeId;
@@ -8,8 +8,8 @@ use std::marker::Model;
 /// what was sent.
 #[derive(Drop)]
 pub struct Post {
-    pub(crate) sender: RuledSender<Parcel, Hand, InOrder>,
-    pub(crate) pass: Pass<Parcel, Hand>,
+    pub(crate) sender: RuledSender<Envelope, Hand, InOrder>,
+    pub(crate) pass: Pass<Envelope, Hand>,
     pub(crate) to: NodeId,
     pub(crate) number: u32,
 }
@@ -37,10 +37,10 @@ impl Model for Post {
 /// was taken.
 #[derive(Drop)]
 pub struct Take {
-    pub(crate) receiver: RuledReceiver<Parcel, Hand, InOrder>,
+    pub(crate) receiver: RuledReceiver<Envelope, Hand, InOrder>,
     /// The passes of posts are joined through it; and while it is there, a receive never finds that all senders are gone.
-    pub(crate) sender: RuledSender<Parcel, Hand, InOrder>,
-    pub(crate) pass: Pass<Parcel, Hand>,
+    pub(crate) sender: RuledSender<Envelope, Hand, InOrder>,
+    pub(crate) pass: Pass<Envelope, Hand>,
     pub(crate) to: NodeId,
     pub(crate) posts: u32,
 }
@@ -67,7 +67,7 @@ impl Model for Take {
 /// An inbox after its end. Contracts see what each post sent, and what was taken.
 #[derive(Drop)]
 pub struct Closed {
-    pub(crate) pass: Pass<Parcel, Hand>,
+    pub(crate) pass: Pass<Envelope, Hand>,
 }
 
 impl Model for Closed {

@@ -6,13 +6,13 @@ ghost use Rattle.curp_ruled.specs.Ends.{AreAllOf, Posted};
 ghost use Rattle.curp_ruled.specs.Rule.{taker, after_seat};
 
 use crate::rule::{Hand, InOrder, Seating};
-use crate::{Parcel, Post, Take};
+use crate::{Envelope, Post, Take};
 use crossbeam_channel::{Pass, RuledReceiver, RuledSender, bounded_with};
 use curp_base::NoMemory;
 use curp_cmd::NodeId;
 use std::alloc::Global;
 
-/// The inbox of a node, with room for so many parcels, and a post for each of so many senders: the one at place `i` has
+/// The inbox of a node, with room for so many envelopes, and a post for each of so many senders: the one at place `i` has
 /// the number `i`.
 pub fn inbox(
     alloc: Global,
@@ -28,7 +28,7 @@ pub fn inbox(
     ensures none_sent { IfOk result (λ made. (k : ℕ) (post : Posted) → At made.0.items k post → post.sent ≡ []) }
     ensures none_taken { IfOk result (λ made. made.1.taken ≡ []) }
 {
-    let (sender, receiver, mut pass) = bounded_with::<Parcel, Hand, InOrder, Global>(
+    let (sender, receiver, mut pass) = bounded_with::<Envelope, Hand, InOrder, Global>(
         alloc,
         room as usize,
     )?;
@@ -39,9 +39,9 @@ pub fn inbox(
 fn take_of(
     to: NodeId,
     posts: u32,
-    receiver: RuledReceiver<Parcel, Hand, InOrder>,
-    sender: RuledSender<Parcel, Hand, InOrder>,
-    pass: Pass<Parcel, Hand>,
+    receiver: RuledReceiver<Envelope, Hand, InOrder>,
+    sender: RuledSender<Envelope, Hand, InOrder>,
+    pass: Pass<Envelope, Hand>,
 ) -> Take
     requires seated { IsSeatAt (receives_on receiver) pass }
     requires same { sends_on sender ≡ receives_on receiver }
@@ -64,8 +64,8 @@ fn take_of(
 fn seat_all(
     alloc: Global,
     to: NodeId,
-    sender: &RuledSender<Parcel, Hand, InOrder>,
-    pass: &mut Pass<Parcel, Hand>,
+    sender: &RuledSender<Envelope, Hand, InOrder>,
+    pass: &mut Pass<Envelope, Hand>,
     count: u32,
 ) -> Result<Vec<Post>, NoMemory>
     requires seated { IsSeatAt (sends_on sender.now) pass.old }
@@ -86,8 +86,8 @@ fn seat_all(
 /// Makes the post of the next number.
 fn seat(
     to: NodeId,
-    sender: &RuledSender<Parcel, Hand, InOrder>,
-    pass: &mut Pass<Parcel, Hand>,
+    sender: &RuledSender<Envelope, Hand, InOrder>,
+    pass: &mut Pass<Envelope, Hand>,
     number: u32,
 ) -> Result<Post, NoMemory>
     requires seated { IsSeatAt (sends_on sender.now) pass.old }

@@ -1,5 +1,5 @@
 //! The rule of an inbox, over what stands in it and what each pass knows, and the steps by which it changes.
-use crate::Parcel;
+use crate::Envelope;
 use crossbeam_channel::protocol::{Join, Lesson, Outcome, Protocol, Split};
 use std::collections::LinkedList;
 
@@ -8,36 +8,36 @@ pub struct Hand {
     /// Whether it may send, as the sender of that number, and what it sent.
     pub sends: bool,
     pub number: u32,
-    pub sent: LinkedList<Parcel>,
+    pub sent: LinkedList<Envelope>,
     /// Whether it may take, how many senders were split from it, what it took, and what the senders that were joined into
     /// it had sent.
     pub takes: bool,
     pub made: u32,
-    pub taken: LinkedList<Parcel>,
-    pub left: LinkedList<LinkedList<Parcel>>,
+    pub taken: LinkedList<Envelope>,
+    pub left: LinkedList<LinkedList<Envelope>>,
 }
 
 /// The rule.
 pub struct InOrder;
 
-impl Protocol<Parcel, Hand> for InOrder {
-    ghost use Rattle.curp_ruled.specs.Rule.{DeliversParcels, taker};
+impl Protocol<Envelope, Hand> for InOrder {
+    ghost use Rattle.curp_ruled.specs.Rule.{DeliversEnvelopes, taker};
 
-    ghost holds = { DeliversParcels };
+    ghost holds = { DeliversEnvelopes };
 
     ghost first = { taker };
 }
 
 pub(crate) struct Sending;
 
-impl Outcome<Parcel, Hand> for Sending {
+impl Outcome<Envelope, Hand> for Sending {
     ghost use Rattle.std.specs.Prelude.{◌≡◌};
     ghost use Rattle.curp_ruled.specs.Rule.{after_send};
 
-    ghost then = { λ before parcel after. after ≡ after_send before parcel };
+    ghost then = { λ before envelope after. after ≡ after_send before envelope };
 }
 
-impl Lesson<Parcel, Hand> for Sending {
+impl Lesson<Envelope, Hand> for Sending {
     ghost use Rattle.std.specs.Prelude.{⊤};
 
     ghost fact = { λ hand items. ⊤ };
@@ -45,14 +45,14 @@ impl Lesson<Parcel, Hand> for Sending {
 
 pub(crate) struct Taking;
 
-impl Outcome<Parcel, Hand> for Taking {
+impl Outcome<Envelope, Hand> for Taking {
     ghost use Rattle.std.specs.Prelude.{◌≡◌};
     ghost use Rattle.curp_ruled.specs.Rule.{after_take};
 
-    ghost then = { λ before parcel after. after ≡ after_take before parcel };
+    ghost then = { λ before envelope after. after ≡ after_take before envelope };
 }
 
-impl Lesson<Parcel, Hand> for Taking {
+impl Lesson<Envelope, Hand> for Taking {
     ghost use Rattle.std.specs.Prelude.{⊤};
 
     ghost fact = { λ hand items. ⊤ };
@@ -79,7 +79,7 @@ impl Join<Hand> for Seating {
 
 pub(crate) struct Closing;
 
-impl Lesson<Parcel, Hand> for Closing {
+impl Lesson<Envelope, Hand> for Closing {
     ghost use Rattle.curp_ruled.specs.Rule.{AreDelivered};
 
     ghost fact = { λ hand items. AreDelivered hand };

@@ -1,9 +1,9 @@
 //! What a run has beside its nodes: every message that was ever sent, and the nodes that get nothing more. It knows no
 //! node.
 //!
-//! - `Sent`: the messages by the steps that sent them, numbered from 1, with what they weigh. `push` takes no memory;
+//! - `SentMessages`: the messages by the steps that sent them, numbered from 1, with what they weigh. `push` takes no memory;
 //!   `reserve` makes the room that it asks for. `count`, `next`, `weight`, `get`, `get_at`, `step_at`: exact. A number
-//!   is found by a binary search, once where its `Place` is kept.
+//!   is found by a binary search, once where its `MessagePlace` is kept.
 //! - `Stopped`: `contains`, `add`: exact.
 //! - `order_of`: the node and the order that a step is for. `answered`: requests, each with the answer of one thread.
 //!   Exact.
@@ -17,5 +17,5 @@ mod stopped;
 
 pub use ordered::answered;
 pub use orders::order_of;
-pub use sent::{Place, Sent};
+pub use sent::{MessagePlace, SentMessages};
 pub use stopped::Stopped;

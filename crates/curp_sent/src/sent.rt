@@ -14,7 +14,7 @@ use std::marker::Model;
 const MOST: u64 = 1 << 63;
 
 /// Every message that was ever sent, as the steps sent them. Messages are numbered from 1.
-pub struct Sent {
+pub struct SentMessages {
     batches: Reserved<Batch>,
     // The number of the first message of each batch.
     firsts: Reserved<u64>,
@@ -23,9 +23,9 @@ pub struct Sent {
     weight: u64,
 }
 
-impl Drop for Sent {
+impl Drop for SentMessages {
     fn drop(self) {
-        let Sent {
+        let SentMessages {
             batches: _,
             firsts: _,
             next: _,
@@ -34,7 +34,7 @@ impl Drop for Sent {
     }
 }
 
-impl Model for Sent {
+impl Model for SentMessages {
     ghost use Rattle.std.specs.Prelude.{◌^◌, nat_le, if◌then◌else◌, min};
     ghost use Rattle.curp_sent.specs.Batches.{Batched, IsIndexOf};
 
@@ -48,12 +48,12 @@ impl Model for Sent {
     ghost invariant = { λ s. IsIndexOf s.firsts.items s.batches.items s.next s.weight };
 }
 
-impl Sent {
+impl SentMessages {
     /// Nothing was sent yet. It takes no memory.
-    pub fn new(alloc: Global) -> Sent
+    pub fn new(alloc: Global) -> SentMessages
         ensures { result.lists ≡ [] }
     {
-        Sent {
+        SentMessages {
             batches: Reserved::new(alloc),
             firsts: Reserved::new(alloc),
             next: 1,
@@ -120,15 +120,15 @@ impl Sent {
     }
 
     /// Where the message of that number is to be looked for.
-    pub fn place_of(&self, number: u64) -> Place
+    pub fn place_of(&self, number: u64) -> MessagePlace
         ensures { result ≡ number }
     {
         let batch = batch_of(&self.firsts, number).unwrap_or(0);
-        Place { number, batch }
+        MessagePlace { number, batch }
     }
 
     /// The message of that number. Where it still stands at its place, it isn't searched for.
-    pub fn get_at(&self, place: &Place) -> Option<&Message>
+    pub fn get_at(&self, place: &MessagePlace) -> Option<&Message>
         ensures { option_copied result ≡ numbered (all_of self.now.lists) place.now }
     {
         let index = batch_at(&self.firsts, place)?;
@@ -149,21 +149,21 @@ impl Sent {
 }
 
 /// The number of a message, and the batch in which it was found. Contracts see the number.
-pub struct Place {
+pub struct MessagePlace {
     number: u64,
     batch: usize,
 }
 
-impl Drop for Place {
+impl Drop for MessagePlace {
     fn drop(self) {
-        let Place {
+        let MessagePlace {
             number: _,
             batch: _,
         } = self;
     }
 }
 
-impl Model for Place {
+impl Model for MessagePlace {
     ghost use Rattle.std.specs.Prelude.{ℕ};
 
     ghost Value = { ℕ };
@@ -183,7 +183,7 @@ fn weight_of_all(messages: &[Message]) -> u64
 }
 
 // The batch that has the number of a place or, of a number past all, the last one.
-fn batch_at(firsts: &[u64], place: &Place) -> Option<usize>
+fn batch_at(firsts: &[u64], place: &MessagePlace) -> Option<usize>
     requires { Rise firsts.now }
     ensures some { IfSome result (IsBatchOf firsts.now place.now) }
     ensures none { IfNone result (IsGapAt firsts.now place.now 0) }

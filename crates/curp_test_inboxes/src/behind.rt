@@ -6,7 +6,7 @@ use curp_cmd::{NodeId, RequestId};
 use curp_desk::Desk;
 use curp_journal::{Arrived, Item, Named};
 use curp_msg::{Body, Local, Message};
-use curp_ruled::{Parcel, Post, Take, inbox};
+use curp_ruled::{Envelope, Post, Take, inbox};
 use curp_seat::{Chores, Took, Unobserved};
 use std::alloc::{AllocError, Global};
 use std::sync::Wait;
@@ -54,11 +54,11 @@ fn fill<R: Wait>(rt: &R, alloc: Global, posts: &mut [Post]) -> Result<(), NoMemo
         return Err(AllocError);
     };
     let number = driver.number();
-    let first = Parcel::new(alloc, number, told(1))?;
+    let first = Envelope::new(alloc, number, told(1))?;
     driver.send(rt, first);
-    let second = Parcel::new(alloc, number, told(2))?;
+    let second = Envelope::new(alloc, number, told(2))?;
     driver.send(rt, second);
-    driver.send(rt, Parcel::end(number));
+    driver.send(rt, Envelope::end(number));
     Ok(())
 }
 

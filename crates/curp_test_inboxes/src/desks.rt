@@ -2,7 +2,7 @@ use crate::board::{Beginnings, Board};
 use crate::relay::{Relay, begun};
 use curp_base::NoMemory;
 use curp_cmd::NodeId;
-use curp_desk::{Carry, Desk, Drive, Member, Posts, Work, run_crew};
+use curp_desk::{Carry, Desk, Drive, Member, Posts, Serve, run_crew};
 use curp_ruled::Take;
 use curp_seat::Unobserved;
 use std::alloc::Global;
@@ -18,8 +18,8 @@ struct Worker<'a> {
     board: &'a Board,
 }
 
-impl<'a> Work for Worker<'a> {
-    fn work<R: Wait>(self, rt: &R, take: Take) {
+impl<'a> Serve for Worker<'a> {
+    fn serve<R: Wait>(self, rt: &R, take: Take) {
         self.desk
             .work(rt, &Unobserved, take, self.chores, self.board);
     }
@@ -120,7 +120,7 @@ struct Plan<'a> {
     steps: u64,
 }
 
-// Runs the clients with rooms of one parcel.
+// Runs the clients with rooms of one envelope.
 fn run<R: Threads + Wait + Sync>(
     rt: &R,
     alloc: Global,
@@ -179,7 +179,7 @@ fn total(counts: &[usize]) -> usize {
 }
 
 #[test]
-fn rooms_of_one_parcel_do_not_stand_still(rt: HostRuntime) -> Result<(), Fail> {
+fn rooms_of_one_envelope_do_not_stand_still(rt: HostRuntime) -> Result<(), Fail> {
     // Each client begins one message, which makes 2^8 - 1 steps.
     let plan = Plan {
         begins: &[1; 12],

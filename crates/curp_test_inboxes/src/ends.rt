@@ -7,7 +7,7 @@ use curp_cmd::NodeId;
 use curp_desk::{Desk, Posts};
 use curp_journal::Arrived;
 use curp_msg::Local;
-use curp_ruled::{Parcel, Post, Take, inbox};
+use curp_ruled::{Envelope, Post, Take, inbox};
 use curp_seat::Unobserved;
 use std::alloc::{AllocError, Global};
 use std::sync::Wait;
@@ -16,14 +16,14 @@ use std::test::Fail;
 // Sends an order by which a relay sends two messages.
 fn send_order<R: Wait>(rt: &R, alloc: Global, post: &mut Post) -> Result<(), NoMemory> {
     let number = post.number();
-    let parcel = Parcel::new(alloc, number, Arrived::Local(Local::Retry(1), 0))?;
-    post.send(rt, parcel);
+    let envelope = Envelope::new(alloc, number, Arrived::Local(Local::Retry(1), 0))?;
+    post.send(rt, envelope);
     Ok(())
 }
 
 fn send_end<R: Wait>(rt: &R, post: &mut Post) {
     let number = post.number();
-    post.send(rt, Parcel::end(number));
+    post.send(rt, Envelope::end(number));
 }
 
 // Two orders, with the driver's end between them, and behind them the end of who sent them.
@@ -67,7 +67,7 @@ fn posts_of(alloc: Global, own: Vec<Post>) -> Result<Posts, NoMemory> {
     Ok(posts)
 }
 
-// What the courier of an ended relay puts into the inbox to which the relay sends: for each of three parcels, whether it is
+// What the courier of an ended relay puts into the inbox to which the relay sends: for each of three envelopes, whether it is
 // an end.
 fn carried<R: Wait>(rt: &R, alloc: Global, desk: &Desk<Relay>) -> Result<[bool; 3], NoMemory> {
     let (own, mut take) = inbox(alloc, NodeId::client(1), 8, 1)?;
@@ -85,9 +85,9 @@ fn carried<R: Wait>(rt: &R, alloc: Global, desk: &Desk<Relay>) -> Result<[bool; 
 }
 
 fn is_end<R: Wait>(rt: &R, take: &mut Take) -> bool {
-    let parcel = take.receive(rt);
-    let is_end = parcel.is_end();
-    drop(parcel);
+    let envelope = take.receive(rt);
+    let is_end = envelope.is_end();
+    drop(envelope);
     is_end
 }
 

@@ -6,16 +6,16 @@ use curp_base::NoMemory;
 use curp_cmd::NodeId;
 use curp_journal::Arrived;
 use curp_msg::Local;
-use curp_ruled::{Closed, Parcel, Post, Take, close, inbox};
+use curp_ruled::{Closed, Envelope, Post, Take, close, inbox};
 use std::alloc::{AllocError, Global};
 use std::sync::Wait;
 use std::test::Fail;
 use std::thread::{Threads, join};
 
-// What was taken: the sender, and the stamp that tells its parcels apart.
+// What was taken: the sender, and the stamp that tells its envelopes apart.
 type Got = (u32, u64);
 
-// What is taken of two senders, in threads of their own, that send so many parcels each.
+// What is taken of two senders, in threads of their own, that send so many envelopes each.
 fn filled<R: Threads + Wait + Sync>(
     rt: &R,
     alloc: Global,
@@ -76,50 +76,50 @@ fn send_both<R: Threads + Wait + Sync>(
     )
 }
 
-// Sends so many parcels. Where there is no memory for one, its sender's end goes in its place.
+// Sends so many envelopes. Where there is no memory for one, its sender's end goes in its place.
 fn send_all<R: Wait>(rt: &R, alloc: Global, mut post: Post, count: u64) -> Post
     ensures { IsSamePost post result }
 {
     let number = post.number();
     for stamp in 0..count {
-        post.send(rt, parcel(alloc, number, stamp));
+        post.send(rt, envelope(alloc, number, stamp));
     }
     post
 }
 
-fn parcel(alloc: Global, number: u32, stamp: u64) -> Parcel
+fn envelope(alloc: Global, number: u32, stamp: u64) -> Envelope
     ensures { result.sender ≡ number }
 {
-    match Parcel::new(alloc, number, Arrived::Local(Local::Sync, stamp)) {
-        Ok(parcel) => parcel,
-        Err(_) => Parcel::end(number),
+    match Envelope::new(alloc, number, Arrived::Local(Local::Sync, stamp)) {
+        Ok(envelope) => envelope,
+        Err(_) => Envelope::end(number),
     }
 }
 
-// Takes so many parcels of each of two senders.
+// Takes so many envelopes of each of two senders.
 fn take_all<R: Wait>(rt: &R, alloc: Global, mut take: Take, count: u64) -> (Take, Vec<Got>)
     ensures { IsSameTake take result.0 }
 {
     let mut taken = Vec::new(alloc);
     for _turn in 0..count.saturating_mul(2) {
-        let parcel = take.receive(rt);
-        let _ = taken.push(got(alloc, parcel));
+        let envelope = take.receive(rt);
+        let _ = taken.push(got(alloc, envelope));
     }
     (take, taken)
 }
 
-fn got(alloc: Global, parcel: Parcel) -> Got {
-    let sender = parcel.sender();
-    if parcel.is_end() {
+fn got(alloc: Global, envelope: Envelope) -> Got {
+    let sender = envelope.sender();
+    if envelope.is_end() {
         return (sender, u64::MAX);
     }
-    match parcel.open(alloc) {
+    match envelope.open(alloc) {
         Ok(input) => (sender, input.stamp()),
         Err(_) => (sender, u64::MAX),
     }
 }
 
-// Whether the parcels of a sender are its first ones, in order, and how many.
+// Whether the envelopes of a sender are its first ones, in order, and how many.
 fn in_order(taken: &[Got], sender: u32) -> Option<u64> {
     let mut next = 0;
     for (number, stamp) in taken {

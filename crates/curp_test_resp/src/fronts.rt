@@ -2,7 +2,7 @@
 use curp_base::NoMemory;
 use curp_cmd::{Answer, RequestId, Value};
 use curp_front::{
-    Admitted, FrontInput, FrontOutput, Fronts, Refusal, front_input_in, is_short,
+    Admitted, FrontInput, FrontOutput, Fronts, InvokeRefusal, front_input_in, is_short,
     write_front_output,
 };
 use std::alloc::Global;
@@ -196,7 +196,7 @@ fn refused_command_has_its_reply(rt: HostRuntime) {
     let mut fronts = Fronts::new(alloc);
     came(&rt, &mut fronts, 1, SET);
     assert!(rt; given(&rt, &mut fronts) == 1, "given");
-    fronts.on_refused(1, Refusal::Split);
+    fronts.on_refused(1, InvokeRefusal::Split);
     tells(
         &rt,
         alloc,

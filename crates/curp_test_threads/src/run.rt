@@ -275,9 +275,9 @@ fn runs_of_each_number_of_backups_are_made_twice_at_most(rt: HostRuntime) -> Res
     Ok(())
 }
 
-// Inboxes with room for one parcel: no run stands still.
+// Inboxes with room for one envelope: no run stands still.
 #[test]
-fn a_hundred_runs_with_rooms_of_one_parcel_end(rt: HostRuntime) -> Result<(), Fail> {
+fn a_hundred_runs_with_rooms_of_one_envelope_end(rt: HostRuntime) -> Result<(), Fail> {
     let plan = LivePlan {
         commands: 20,
         ..of_four(Protocol::One, 3)

@@ -1,11 +1,11 @@
-use crate::mismatch::Mismatch;
+use crate::mismatch::MessageMismatch;
 use curp_base::NoMemory;
 use curp_collected::CollectError;
 use curp_disk::FileError;
 use curp_durable::{DurableError, FormatError, OpenError};
 use curp_filter::FilterEnd;
 use curp_runner::Status;
-use curpd_words::WordsError;
+use curpd_words::CurpdWordsError;
 use std::io;
 use std::process::ExitCode;
 use thiserror::Error;
@@ -15,7 +15,7 @@ use thiserror::Error;
 #[derive(Debug, Drop, Error)]
 pub enum Ending {
     #[error("{0}")]
-    Words(WordsError),
+    Words(CurpdWordsError),
     #[error("an argument is no text")]
     NoText,
     /// The cluster's opening has no such client, and clients don't begin later.
@@ -43,7 +43,7 @@ pub enum Ending {
     #[error("{name}: {error}")]
     NoJournals { error: CollectError, name: String },
     #[error("{0}")]
-    Mismatch(Mismatch),
+    Mismatch(MessageMismatch),
     #[error("the journals have more than 200000 items")]
     TooManySteps,
     #[error("what the journals' nodes sent weighs {weight}, which is more than 2000000")]
@@ -109,10 +109,10 @@ impl From<Status> for Ending {
     }
 }
 
-impl From<WordsError> for Ending {
-    fn from(error: WordsError) -> Ending {
+impl From<CurpdWordsError> for Ending {
+    fn from(error: CurpdWordsError) -> Ending {
         match error {
-            WordsError::NoMemory => Ending::NoMemory,
+            CurpdWordsError::NoMemory => Ending::NoMemory,
             _ => Ending::Words(error),
         }
     }

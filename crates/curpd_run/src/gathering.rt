@@ -8,7 +8,7 @@ ghost use Rattle.curp_script.specs.Printed.{NamesNode};
 ghost use Rattle.curp_script.specs.Script.{Whole};
 
 use crate::ending::Ending;
-use crate::mismatch::Mismatch;
+use crate::mismatch::MessageMismatch;
 use curp_base::NoMemory;
 use curp_collected::{CollectError, FileScript, ScriptError, script_of};
 use curp_gather::GatherError;
@@ -30,7 +30,7 @@ pub(crate) fn gather<K: Sink>(
     until: Option<u64>,
     sink: &mut K,
 ) -> Result<(), Ending> {
-    let found = Found::read(rt, alloc, files)?;
+    let found = JournalFiles::read(rt, alloc, files)?;
     let text = match script_of(alloc, &found.journals, until) {
         Ok(script) => text_of(alloc, &script)?,
         Err(error) => return Err(found.ending_of(alloc, &error)),
@@ -43,18 +43,18 @@ pub(crate) fn gather<K: Sink>(
 
 /// The files that are there: their names and their bytes.
 #[derive(Drop)]
-struct Found<'a> {
+struct JournalFiles<'a> {
     names: Vec<&'a str>,
     journals: Vec<Vec<u8>>,
 }
 
-impl<'a> Found<'a> {
+impl<'a> JournalFiles<'a> {
     fn read(
         rt: &(impl Files<File = File> + AllocGlobal),
         alloc: Global,
         files: &[&'a str],
-    ) -> Result<Found<'a>, Ending> {
-        let mut found = Found {
+    ) -> Result<JournalFiles<'a>, Ending> {
+        let mut found = JournalFiles {
             names: Vec::new(alloc),
             journals: Vec::new(alloc),
         };
@@ -90,7 +90,7 @@ impl<'a> Found<'a> {
                     got,
                     kept,
                 },
-            ) => Ending::Mismatch(Mismatch::new(*node, *step, got, kept)),
+            ) => Ending::Mismatch(MessageMismatch::new(*node, *step, got, kept)),
             ScriptError::Gather(GatherError::TooManySteps) => Ending::TooManySteps,
             ScriptError::Gather(GatherError::TooLarge { weight }) => {
                 Ending::TooLarge { weight: *weight }

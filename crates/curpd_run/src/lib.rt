@@ -16,5 +16,5 @@ mod process;
 mod running;
 
 pub use ending::Ending;
-pub use mismatch::Mismatch;
+pub use mismatch::MessageMismatch;
 pub use process::start;

@@ -3,7 +3,7 @@ use crate::gathering::gather;
 use crate::running::{format, run_front, run_node};
 use curp_base::{NoMemory, past};
 use curp_io::{StdSink, StdSource};
-use curpd_words::{Task, WordsError, read};
+use curpd_words::{CurpdTask, CurpdWordsError, read};
 use std::alloc::Global;
 use std::fs::File;
 use std::io::BufWriter;
@@ -27,7 +27,7 @@ pub fn start(
 /// Tells why the process ends. Where it can't be printed, the number still tells.
 fn told(rt: &(impl Print + Eprint), ending: &Ending) -> ExitCode {
     match ending {
-        Ending::Words(WordsError::Words(error)) => {
+        Ending::Words(CurpdWordsError::Words(error)) => {
             let _ = error.print(rt);
             ExitCode::from(error.exit_code() as u8)
         }
@@ -49,18 +49,18 @@ fn run(
     };
     let words = words_of(alloc, &arguments)?;
     match read(alloc, &words)? {
-        Task::Format(seat) => format(rt, alloc, &seat),
-        Task::Node(seat) => {
+        CurpdTask::Format(seat) => format(rt, alloc, &seat),
+        CurpdTask::Node(seat) => {
             let mut source = StdSource::new(rt.reader());
             let mut sink = StdSink::new(io::writer(rt));
             run_node(rt, alloc, &seat, &mut source, &mut sink)
         }
-        Task::Front(seat) => {
+        CurpdTask::Front(seat) => {
             let mut source = StdSource::new(rt.reader());
             let mut sink = StdSink::new(io::writer(rt));
             run_front(rt, alloc, &seat, &mut source, &mut sink)
         }
-        Task::Gather { files, until } => {
+        CurpdTask::Gather { files, until } => {
             let Ok(writer) = BufWriter::with_capacity(alloc, OUTPUT_ROOM, io::writer(rt)) else {
                 return Err(Ending::NoMemory);
             };

@@ -10,5 +10,5 @@ mod task;
 mod words;
 
 pub use name::{NodeName, node_named};
-pub use task::{Seat, Task, WordsError};
+pub use task::{CurpdTask, CurpdWordsError, Seat};
 pub use words::read;

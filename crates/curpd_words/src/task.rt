@@ -5,7 +5,7 @@ use thiserror::Error;
 
 /// What a run of the program is to do.
 #[derive(Drop)]
-pub enum Task<'a> {
+pub enum CurpdTask<'a> {
     /// Make the journal of a node that has done nothing.
     Format(Seat<'a>),
     /// Run a node over the standard streams, with its journal.
@@ -30,7 +30,7 @@ pub struct Seat<'a> {
 
 /// Why there is no task.
 #[derive(Debug, Drop, Error)]
-pub enum WordsError {
+pub enum CurpdWordsError {
     /// The words are no command line, or ask for help: what is said to the user.
     #[error("{0}")]
     Words(clap::Error),

@@ -3,22 +3,22 @@ ghost use Rattle.curp_script.specs.Headers.{bad_field};
 ghost use Rattle.curpd_words.specs.Tasks.{HasHeader};
 
 use crate::name::node_named;
-use crate::task::{Seat, Task, WordsError};
+use crate::task::{CurpdTask, CurpdWordsError, Seat};
 use clap::{Arg, ArgAction, ArgMatches, Command, value_parser};
 use curp_cmd::NodeKind;
 use curp_script::{LineError, LineReader};
 use std::alloc::{AllocError, Global};
 
 /// What the words behind the program's name ask for.
-pub fn read<'a>(alloc: Global, words: &'a [&'a str]) -> Result<Task<'a>, WordsError>
+pub fn read<'a>(alloc: Global, words: &'a [&'a str]) -> Result<CurpdTask<'a>, CurpdWordsError>
     ensures valid { IfOk result HasHeader }
 {
     let matches = parser(alloc)?.try_get_matches_from(words)?;
     match matches.subcommand() {
-        Some(("format", found)) => Ok(Task::Format(seat(alloc, found)?)),
+        Some(("format", found)) => Ok(CurpdTask::Format(seat(alloc, found)?)),
         Some(("node", found)) => node(alloc, found),
         Some((_, found)) => gather(alloc, found),
-        None => Err(WordsError::Name),
+        None => Err(CurpdWordsError::Name),
     }
 }
 
@@ -94,39 +94,39 @@ fn gather_command<'a>(alloc: Global) -> Result<Command<'a>, AllocError> {
         .arg(until)
 }
 
-fn seat<'a>(alloc: Global, matches: &ArgMatches<'a>) -> Result<Seat<'a>, WordsError>
+fn seat<'a>(alloc: Global, matches: &ArgMatches<'a>) -> Result<Seat<'a>, CurpdWordsError>
     ensures { IfOk result (λ seat. bad_field seat.header ≡ None) }
 {
     let name = text(matches, "name")?;
     let journal = text(matches, "journal")?;
     let header = text(matches, "header")?;
     Ok(Seat {
-        node: node_named(name).ok_or(WordsError::Name)?,
+        node: node_named(name).ok_or(CurpdWordsError::Name)?,
         header: LineReader::new(alloc).parse_header(header.as_bytes())?,
         journal,
     })
 }
 
-fn node<'a>(alloc: Global, matches: &ArgMatches<'a>) -> Result<Task<'a>, WordsError>
+fn node<'a>(alloc: Global, matches: &ArgMatches<'a>) -> Result<CurpdTask<'a>, CurpdWordsError>
     ensures { IfOk result HasHeader }
 {
     let seat = seat(alloc, matches)?;
     match (matches.get_flag("resp"), seat.node.kind) {
-        (false, _) => Ok(Task::Node(seat)),
-        (true, NodeKind::Client) => Ok(Task::Front(seat)),
-        (true, _) => Err(WordsError::NoClient),
+        (false, _) => Ok(CurpdTask::Node(seat)),
+        (true, NodeKind::Client) => Ok(CurpdTask::Front(seat)),
+        (true, _) => Err(CurpdWordsError::NoClient),
     }
 }
 
 /// The value of an option that the parser requires.
-fn text<'a>(matches: &ArgMatches<'a>, name: &str) -> Result<&'a str, WordsError> {
-    matches.get_str(name).ok_or(WordsError::Name)
+fn text<'a>(matches: &ArgMatches<'a>, name: &str) -> Result<&'a str, CurpdWordsError> {
+    matches.get_str(name).ok_or(CurpdWordsError::Name)
 }
 
-fn gather<'a>(alloc: Global, matches: &ArgMatches<'a>) -> Result<Task<'a>, WordsError>
+fn gather<'a>(alloc: Global, matches: &ArgMatches<'a>) -> Result<CurpdTask<'a>, CurpdWordsError>
     ensures { IfOk result HasHeader }
 {
-    Ok(Task::Gather {
+    Ok(CurpdTask::Gather {
         files: files(alloc, matches)?,
         until: matches.get_one("until"),
     })
@@ -140,26 +140,26 @@ fn files<'a>(alloc: Global, matches: &ArgMatches<'a>) -> Result<Vec<&'a str>, Al
     Ok(files)
 }
 
-impl From<clap::Error> for WordsError {
-    fn from(error: clap::Error) -> WordsError {
+impl From<clap::Error> for CurpdWordsError {
+    fn from(error: clap::Error) -> CurpdWordsError {
         match error.kind() {
-            clap::error::ErrorKind::OutOfMemory => WordsError::NoMemory,
-            _ => WordsError::Words(error),
+            clap::error::ErrorKind::OutOfMemory => CurpdWordsError::NoMemory,
+            _ => CurpdWordsError::Words(error),
         }
     }
 }
 
-impl From<AllocError> for WordsError {
-    fn from(_: AllocError) -> WordsError {
-        WordsError::NoMemory
+impl From<AllocError> for CurpdWordsError {
+    fn from(_: AllocError) -> CurpdWordsError {
+        CurpdWordsError::NoMemory
     }
 }
 
-impl From<LineError> for WordsError {
-    fn from(error: LineError) -> WordsError {
+impl From<LineError> for CurpdWordsError {
+    fn from(error: LineError) -> CurpdWordsError {
         match error {
-            LineError::NoMemory => WordsError::NoMemory,
-            _ => WordsError::Header(error),
+            LineError::NoMemory => CurpdWordsError::NoMemory,
+            _ => CurpdWordsError::Header(error),
         }
     }
 }

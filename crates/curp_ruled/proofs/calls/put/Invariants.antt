@@ -4,4 +4,4 @@ use Rattle.crossbeam_channel.specs.Ends.{sends_on}
 use Rattle.curp_ruled.proofs.calls.put.Given as goal
 
 abbrev pub invariant-loop : goal.invariant-loop
-invariant-loop g l = (l.parcel ≡ l.fn.parcel) × IsSeatAt (sends_on l.sender) l.pass × (view l.pass ≡ view l.fn.pass)
+invariant-loop g l = (l.envelope ≡ l.fn.envelope) × IsSeatAt (sends_on l.sender) l.pass × (view l.pass ≡ view l.fn.pass)

@@ -1,4 +1,4 @@
--- What contracts see of a parcel (this project's own).
+-- What contracts see of an envelope (this project's own).
 use Rattle.std.specs.Prelude.{ℕ, Option, Some, None}
 use Rattle.curp_journal.specs.declared.arrived.Arrived.{Arrived}
 

@@ -7,7 +7,7 @@ use curp_seat::Framed;
 use std::alloc::Global;
 use std::marker::Model;
 
-/// What is in a parcel.
+/// What is in an envelope.
 #[derive(Drop)]
 enum Load {
     /// Its sender's end.
@@ -20,37 +20,37 @@ enum Load {
 /// What a sender puts into an inbox: an input for its node, or the sender's end. Contracts see who sent it and what it
 /// carries.
 #[derive(Drop)]
-pub struct Parcel {
+pub struct Envelope {
     sender: u32,
     load: Load,
 }
 
-impl Model for Parcel {
+impl Model for Envelope {
     ghost use Rattle.curp_ruled.specs.Load.{loaded_input};
-    ghost use Rattle.curp_ruled.specs.Parcel.{Letter};
+    ghost use Rattle.curp_ruled.specs.Envelope.{Letter};
 
     ghost Value = { Letter };
 
-    ghost view = { λ parcel. record { sender = parcel.sender; carries = loaded_input parcel.load } };
+    ghost view = { λ envelope. record { sender = envelope.sender; carries = loaded_input envelope.load } };
 }
 
-impl Parcel {
-    /// A parcel of that sender that carries an input. A light message is written as its frame.
-    pub fn new(alloc: Global, sender: u32, input: Arrived) -> Result<Parcel, NoMemory>
-        ensures { IfOk result (λ parcel. parcel ≡ record { sender = sender; carries = Some input }) }
+impl Envelope {
+    /// An envelope of that sender that carries an input. A light message is written as its frame.
+    pub fn new(alloc: Global, sender: u32, input: Arrived) -> Result<Envelope, NoMemory>
+        ensures { IfOk result (λ envelope. envelope ≡ record { sender = sender; carries = Some input }) }
     {
         let load = match input {
             Arrived::Local(order, stamp) => Load::Order(order, stamp),
             Arrived::Message(named) => Load::Message(Framed::seal(alloc, named)?),
         };
-        Ok(Parcel { sender, load })
+        Ok(Envelope { sender, load })
     }
 
     /// That sender's end, after which it sends nothing. It takes no memory.
-    pub fn end(sender: u32) -> Parcel
+    pub fn end(sender: u32) -> Envelope
         ensures { result ≡ record { sender = sender; carries = None } }
     {
-        Parcel {
+        Envelope {
             sender,
             load: Load::End,
         }

@@ -2,7 +2,7 @@ use Rattle.std.proofs.Common.{arith, ◌≡◌, ◌<◌, length, get_or, [], ap,
 use Rattle.std.proofs.lemmas.List.{get_or_default}
 use Rattle.curp_sent.specs.Batches.{NumberStandsAt, IsGapAt, firsts_from}
 use Rattle.curp_sent.proofs.BatchLaws.{firsts_from_rise, length-firsts_from, batch_below, sent_at-stands, sent_at-gap}
-use Rattle.curp_sent.proofs.sent.Sent.step_at.Goals as goal
+use Rattle.curp_sent.proofs.sent.SentMessages.step_at.Goals as goal
 
 -- the first numbers of batches that aren't empty rise
 pub search-requires : goal.search-requires

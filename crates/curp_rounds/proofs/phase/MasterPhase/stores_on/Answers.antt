@@ -1,5 +1,5 @@
 use Rattle.curp_rounds.proofs.Fresh.{among_fresh}
-use Rattle.curp_rounds.proofs.phase.Phase.stores_on.Goals as goal
+use Rattle.curp_rounds.proofs.phase.MasterPhase.stores_on.Goals as goal
 
 pub returns-else-is_among : goal.returns-else-is_among
 returns-else-is_among c =

@@ -1,6 +1,6 @@
 use Rattle.std.proofs.Common.{rules}
 use Rattle.curp_sent.proofs.BatchLaws.{kept_push}
-use Rattle.curp_sent.proofs.sent.Sent.push.Goals as goal
+use Rattle.curp_sent.proofs.sent.SentMessages.push.Goals as goal
 
 pub invariant_of-self : goal.invariant_of-self
 invariant_of-self c =

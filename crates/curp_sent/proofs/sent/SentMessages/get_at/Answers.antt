@@ -3,7 +3,7 @@ use Rattle.std.proofs.lemmas.List.{get_or_default}
 use Rattle.curp_sent.specs.Batches.{IsBatchOf, IsGapAt, firsts_from}
 use Rattle.curp_base.proofs.Lists.{lent_item}
 use Rattle.curp_sent.proofs.BatchLaws.{firsts_from_rise, length-firsts_from, numbered_in_batch, numbered_below}
-use Rattle.curp_sent.proofs.sent.Sent.get_at.Goals as goal
+use Rattle.curp_sent.proofs.sent.SentMessages.get_at.Goals as goal
 
 -- the first numbers of batches that aren't empty rise
 pub batch_at-requires : goal.batch_at-requires

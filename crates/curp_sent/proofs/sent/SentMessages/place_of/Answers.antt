@@ -1,5 +1,5 @@
 use Rattle.curp_sent.proofs.BatchLaws.{firsts_from_rise}
-use Rattle.curp_sent.proofs.sent.Sent.place_of.Goals as goal
+use Rattle.curp_sent.proofs.sent.SentMessages.place_of.Goals as goal
 
 -- the first numbers of batches that aren't empty rise
 pub batch_of-requires : goal.batch_of-requires

@@ -3,7 +3,7 @@ use Rattle.std.proofs.lemmas.List.{length-map}
 use Rattle.curp_line.specs.Slots.{dropped_slot}
 use Rattle.curp_line.proofs.Kept.{drops_keep_links, written}
 use Rattle.curp_line.proofs.Links.{linked_map}
-use Rattle.curp_line.proofs.slots.Slots.drop_past.Goals as goal
+use Rattle.curp_line.proofs.slots.MarkSlots.drop_past.Goals as goal
 
 dropped_in_place : (c : goal.After-self-1) → take c.self.inside.list.len (c.drop_marks.new.slots ++ drop (length c.drop_marks.new.slots) c.self.inside.list.items) ≡ map (dropped_slot c.args.part c.args.cut) c.self.inside.list.items
 dropped_in_place c =

@@ -3,7 +3,7 @@ use Rattle.std.proofs.lemmas.List.{length-map}
 use Rattle.curp_line.specs.Slots.{flagged_slot}
 use Rattle.curp_line.proofs.Kept.{flags_keep_links, written}
 use Rattle.curp_line.proofs.Links.{linked_map}
-use Rattle.curp_line.proofs.slots.Slots.flag.Goals as goal
+use Rattle.curp_line.proofs.slots.MarkSlots.flag.Goals as goal
 
 flagged_in_place : (c : goal.After-self-1) → take c.self.inside.list.len (c.flag_marks.new.slots ++ drop (length c.flag_marks.new.slots) c.self.inside.list.items) ≡ map (flagged_slot c.args.completed.now) c.self.inside.list.items
 flagged_in_place c =

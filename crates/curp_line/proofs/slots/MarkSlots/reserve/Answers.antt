@@ -1,5 +1,5 @@
 use Rattle.curp_line.proofs.Links.{linked_same}
-use Rattle.curp_line.proofs.slots.Slots.reserve.Goals as goal
+use Rattle.curp_line.proofs.slots.MarkSlots.reserve.Goals as goal
 
 pub invariant_of-self-2 : goal.invariant_of-self-2
 invariant_of-self-2 c =
