@@ -1,8 +1,11 @@
-//! Tests of a node's journal, of comparing messages and of merging journals, by the public calls.
+//! Tests of journals of nodes and of what they stand on, by the public calls: a disk over a file, the title of a node's
+//! journal, a node's journal, comparing messages and merging journals.
 #![tactic(auto)]
 
 #[cfg(test)]
 mod asker;
+#[cfg(test)]
+mod files;
 #[cfg(test)]
 mod journal;
 #[cfg(test)]
@@ -13,3 +16,5 @@ mod lines;
 mod merge;
 #[cfg(test)]
 mod same;
+#[cfg(test)]
+mod titles;

@@ -3,9 +3,9 @@ use curp_disk::{Did, Disk, FileDisk, FileError, Long};
 use std::fs;
 use std::test::Fail;
 
-const KEPT: &str = "curp_test_disks_kept";
+const KEPT: &str = "curp_test_journals_kept";
 
-const REFUSED: &str = "curp_test_disks_refused";
+const REFUSED: &str = "curp_test_journals_refused";
 
 #[test]
 fn what_is_written_stands_in_the_file(rt: HostRuntime) -> Result<(), Fail> {
