@@ -16,7 +16,7 @@ use curp_msg::{Local, Step};
 
 /// The step of a turn, and how many messages the turn sent.
 #[derive(Drop)]
-pub(crate) struct MadeStep {
+pub(crate) struct TurnStep {
     pub(crate) step: Step,
     pub(crate) sent: u64,
 }
@@ -27,7 +27,7 @@ pub(crate) fn next_step(
     tracks: &[Track],
     strand: &Strand<'_>,
     taken: usize,
-) -> Result<MadeStep, NoMemory>
+) -> Result<TurnStep, NoMemory>
     requires apart { AreApart strands.now }
     requires one_manager { strand.now.id.kind ≡ kind.Manager → strand.now.id ≡ manager_node }
     requires ready { CanBeTaken strands.now tracks.now strand.now taken }
@@ -39,13 +39,13 @@ pub(crate) fn next_step(
 {
     let items = strand.items();
     if taken == items.len() {
-        return Ok(MadeStep {
+        return Ok(TurnStep {
             step: Step::Stop { node: strand.id() },
             sent: 0,
         });
     }
     let item = &items[taken];
-    Ok(MadeStep {
+    Ok(TurnStep {
         step: step_of(strands, tracks, strand.id(), &item.input)?,
         sent: item.done.sent.len() as u64,
     })
