@@ -1,6 +1,7 @@
 // What connections are told, by texts that were written by hand.
+use crate::texts::found;
 use curp_base::NoMemory;
-use curp_cmd::{Answer, RequestId, Value};
+use curp_cmd::{Answer, RequestId};
 use curp_front::{
     Admitted, FrontInput, FrontOutput, Fronts, InvokeRefusal, front_input_in, is_short,
     write_front_output,
@@ -82,10 +83,6 @@ fn digit(connection: u64) -> u8 {
 fn tells(rt: &impl Abort, alloc: Global, fronts: &mut Fronts, wanted: &str) {
     let text = told(rt, alloc, fronts);
     assert!(rt; text.as_slice() == wanted.as_bytes(), "{wanted}");
-}
-
-fn found(bytes: &[u8]) -> Answer {
-    Answer::Found(Value::new(bytes).ok())
 }
 
 // ---- tests

@@ -1,5 +1,5 @@
 // The table of replies, written by hand.
-use crate::texts::{filled, must_hold, repeated};
+use crate::texts::{filled, found, must_hold, repeated};
 use curp_cmd::{Answer, Value};
 use curp_resp::{Other, Wrong, other_text, protocol_text, reply_text, wrong_text};
 use std::alloc::Global;
@@ -21,10 +21,6 @@ fn reply_to_other(rt: &impl Abort, alloc: Global, other: &Other) -> Vec<u8> {
 
 fn echo(rt: &impl Abort, text: &str) -> Other {
     Other::Echo(Value::new(text.as_bytes()).expect(rt, "no value"))
-}
-
-fn found(bytes: &[u8]) -> Answer {
-    Answer::Found(Value::new(bytes).ok())
 }
 
 // ---- the table

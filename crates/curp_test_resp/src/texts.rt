@@ -1,4 +1,5 @@
-// Long texts, and how a test ends.
+// Long texts, an answer with a value, and how a test ends.
+use curp_cmd::{Answer, Value};
 use std::alloc::Global;
 use std::process::Abort;
 
@@ -20,4 +21,8 @@ pub(crate) fn filled(
     with: &str,
 ) -> String {
     text.replace(alloc, letter, with).expect(rt, "no memory")
+}
+
+pub(crate) fn found(bytes: &[u8]) -> Answer {
+    Answer::Found(Value::new(bytes).ok())
 }
