@@ -286,7 +286,7 @@ def encode(message):
 # ---- the check
 
 TOP = Path(__file__).resolve().parent.parent
-FRAMES, FAULTS = "curp_test_frames/src/bodies.rt", "curp_test_frames/src/faults.rt"
+FRAMES, FAULTS = "curp_test_frames/src/bodies.rt", "curp_test_encodings/src/faults.rt"
 # How many the page and these have. Whoever adds one raises it, so that none is lost unseen.
 WANTED = {"examples decoded": 78, "frames of the tests": 67, "faults of the tests": 51}
 EXAMPLE = re.compile(r"((?:^ {4}[0-9a-f][0-9a-f ]*\n)+) {4}(\{.*\})", re.MULTILINE)

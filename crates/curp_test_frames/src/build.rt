@@ -49,14 +49,7 @@ pub(crate) fn held<T: Drop>(rt: &impl Abort, alloc: Global, value: T) -> Shared<
     Shared::new(alloc, value).ok().expect(rt, "no memory")
 }
 
-pub(crate) fn share<T: Drop>(rt: &impl Abort, held: &Shared<T>) -> Shared<T> {
-    held.share().expect(rt, "no memory")
-}
-
-pub(crate) fn ascending<K: Ord + Drop, V: Drop>(
-    rt: &impl Abort,
-    pairs: Vec<(K, V)>,
-) -> AscendingPairs<K, V> {
+fn ascending<K: Ord + Drop, V: Drop>(rt: &impl Abort, pairs: Vec<(K, V)>) -> AscendingPairs<K, V> {
     assert!(rt; pairs_ascend(&pairs));
     AscendingPairs::new(pairs)
 }
@@ -87,7 +80,7 @@ pub(crate) fn message(body: Body) -> Message {
     }
 }
 
-pub(crate) fn request(command: Command) -> Request {
+fn request(command: Command) -> Request {
     Request {
         id: ID,
         first: 2,
@@ -97,19 +90,6 @@ pub(crate) fn request(command: Command) -> Request {
 
 pub(crate) fn shared(rt: &impl Abort, alloc: Global, command: Command) -> Shared<Request> {
     held(rt, alloc, request(command))
-}
-
-/// Four keys of 32 bytes, each with that value. With 128 bytes of it this is the largest command.
-pub(crate) fn largest(rt: &impl Abort, value: Value) -> Command {
-    multi(
-        rt,
-        &[
-            (key(rt, &[1; 32]), value),
-            (key(rt, &[2; 32]), value),
-            (key(rt, &[3; 32]), value),
-            (key(rt, &[4; 32]), value),
-        ],
-    )
 }
 
 /// Two records, a first number, and two expired clients.
@@ -150,7 +130,7 @@ pub(crate) fn no_package(rt: &impl Abort, alloc: Global) -> Shared<Package> {
 }
 
 /// The operation of that request.
-pub(crate) fn op_of(rt: &impl Abort, alloc: Global, request: Request, acknowledge: u32) -> Entry {
+fn op_of(rt: &impl Abort, alloc: Global, request: Request, acknowledge: u32) -> Entry {
     Entry::Op {
         request: held(rt, alloc, request),
         acknowledge,

@@ -1,21 +1,68 @@
 //! A message is written as its frame, and read of it; what is cut or changed is told.
 
 use crate::build::message;
-use crate::calls::{are_same, fault_of, is_light_message, light_frame_of, read_frame, reads};
 use crate::hex::{Encoded, encoding_of};
 use crate::holds::must_hold;
 use curp_base::NoMemory;
 use curp_msg::{Body, Message};
-use curp_wire::FrameError;
+use curp_same::Same;
+use curp_wire::{FrameError, decode, encode, encode_light, is_light};
 use std::alloc::Global;
 use std::process::Abort;
+
+// ---- what is called, of which the tests know nothing
+
+/// The frame of a light message, which both calls write.
+fn frame_of(alloc: Global, message: &Message) -> Option<Vec<u8>> {
+    if !is_light(message) {
+        return None;
+    }
+    let frame = encode_light(alloc, message).ok()?;
+    let other = encode(alloc, message).ok()?;
+    if frame == other { Some(frame) } else { None }
+}
+
+fn read_frame(alloc: Global, bytes: &[u8]) -> Result<(Message, usize), FrameError> {
+    decode(alloc, bytes)
+}
+
+fn is_light_message(message: &Message) -> bool {
+    is_light(message)
+}
+
+fn are_same(one: &Message, other: &Message) -> bool {
+    one.same(other)
+}
 
 // ---- a message and its frame
 
 fn is_written(alloc: Global, message: &Message, frame: &[u8]) -> bool {
-    match light_frame_of(alloc, message) {
+    match frame_of(alloc, message) {
         Some(written) => written.as_slice() == frame,
         None => false,
+    }
+}
+
+/// Whether the bytes begin with the message's frame, of that length.
+fn reads(alloc: Global, bytes: &[u8], message: &Message, length: usize) -> bool {
+    match read_frame(alloc, bytes) {
+        Ok((found, end)) => {
+            let reads = end == length && are_same(&found, message);
+            drop(found);
+            reads
+        }
+        Err(_) => false,
+    }
+}
+
+/// Why the bytes begin with no frame.
+fn fault_of(alloc: Global, bytes: &[u8]) -> Option<FrameError> {
+    match read_frame(alloc, bytes) {
+        Ok((found, _)) => {
+            drop(found);
+            None
+        }
+        Err(why) => Some(why),
     }
 }
 

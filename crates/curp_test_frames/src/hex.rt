@@ -37,10 +37,6 @@ pub(crate) fn encoding_of(rt: &impl Abort, alloc: Global, text: &str) -> Encoded
     encoded
 }
 
-pub(crate) fn bytes_of(rt: &impl Abort, alloc: Global, text: &str) -> Vec<u8> {
-    encoding_of(rt, alloc, text).bytes
-}
-
 /// Two digits a byte.
 fn push_word(bytes: &mut Vec<u8>, word: &str) -> Result<(), NoMemory> {
     let mut high = None;

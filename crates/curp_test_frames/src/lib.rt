@@ -1,6 +1,4 @@
-//! Tests of messages and their frames by the public calls, against bytes that were written by hand; of what is no frame, with
-//! the fault and its place; and of large frames, of messages that just are light or just aren't, and of those that have no
-//! frame.
+//! Tests of messages and their frames by the public calls, against bytes that were written by hand.
 #![tactic(auto)]
 
 #[cfg(test)]
@@ -8,16 +6,8 @@ mod bodies;
 #[cfg(test)]
 mod build;
 #[cfg(test)]
-mod calls;
-#[cfg(test)]
-mod faults;
-#[cfg(test)]
 mod frames;
-#[cfg(test)]
-mod heavy;
 #[cfg(test)]
 mod hex;
 #[cfg(test)]
 mod holds;
-#[cfg(test)]
-mod large;

@@ -1,7 +1,10 @@
 //! What the tables build alike, by calls of which they know nothing. A test ends where something isn't built.
 
-use curp_base::{AscendingKeys, AscendingPairs, Shared, keys_ascend, pairs_ascend};
-use curp_cmd::{Answer, Command, Entry, Key, Package, Request, RequestId, TablePart, Value};
+use curp_base::{AscendingKeys, AscendingPairs, Boxed, Shared, keys_ascend, pairs_ascend};
+use curp_cmd::{
+    Answer, Command, Entry, Key, NodeId, Package, Request, RequestId, TablePart, Value,
+};
+use curp_msg::{Body, Message};
 use std::alloc::Global;
 use std::process::Abort;
 
@@ -11,7 +14,7 @@ const OTHER: RequestId = RequestId { client: 3, seq: 14 };
 
 // ---- what is called
 
-fn key(rt: &impl Abort, bytes: &[u8]) -> Key {
+pub(crate) fn key(rt: &impl Abort, bytes: &[u8]) -> Key {
     Key::new(bytes).expect(rt, "no key")
 }
 
@@ -19,11 +22,11 @@ pub(crate) fn value(rt: &impl Abort, bytes: &[u8]) -> Value {
     Value::new(bytes).expect(rt, "no value")
 }
 
-fn multi(rt: &impl Abort, pairs: &[(Key, Value)]) -> Command {
+pub(crate) fn multi(rt: &impl Abort, pairs: &[(Key, Value)]) -> Command {
     Command::multi(pairs).expect(rt, "no multi-put")
 }
 
-fn add<T: Drop>(rt: &impl Abort, list: &mut Vec<T>, item: T) {
+pub(crate) fn add<T: Drop>(rt: &impl Abort, list: &mut Vec<T>, item: T) {
     assert!(rt; list.push(item).is_ok());
 }
 
@@ -31,12 +34,23 @@ fn list<T: Copy>(rt: &impl Abort, alloc: Global, items: &[T]) -> Vec<T> {
     Vec::from_slice(alloc, items).expect(rt, "no memory")
 }
 
+pub(crate) fn boxed<T: Drop>(rt: &impl Abort, alloc: Global, value: T) -> Boxed<T> {
+    Boxed::new(alloc, value).ok().expect(rt, "no memory")
+}
+
 /// A value that others may hold too.
-fn held<T: Drop>(rt: &impl Abort, alloc: Global, value: T) -> Shared<T> {
+pub(crate) fn held<T: Drop>(rt: &impl Abort, alloc: Global, value: T) -> Shared<T> {
     Shared::new(alloc, value).ok().expect(rt, "no memory")
 }
 
-fn ascending<K: Ord + Drop, V: Drop>(rt: &impl Abort, pairs: Vec<(K, V)>) -> AscendingPairs<K, V> {
+pub(crate) fn share<T: Drop>(rt: &impl Abort, held: &Shared<T>) -> Shared<T> {
+    held.share().expect(rt, "no memory")
+}
+
+pub(crate) fn ascending<K: Ord + Drop, V: Drop>(
+    rt: &impl Abort,
+    pairs: Vec<(K, V)>,
+) -> AscendingPairs<K, V> {
     assert!(rt; pairs_ascend(&pairs));
     AscendingPairs::new(pairs)
 }
@@ -47,6 +61,15 @@ fn ascending_keys(rt: &impl Abort, keys: Vec<u32>) -> AscendingKeys<u32> {
 }
 
 // ---- requests and entries
+
+/// From client 1 to master 2.
+pub(crate) fn message(body: Body) -> Message {
+    Message {
+        from: NodeId::client(1),
+        to: NodeId::master(2),
+        body,
+    }
+}
 
 pub(crate) fn request(command: Command) -> Request {
     Request {

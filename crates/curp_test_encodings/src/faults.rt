@@ -116,7 +116,7 @@ static COMMANDS: [(&str, u64); 10] = [
 ];
 
 #[test]
-fn commands_that_are_none(rt: HostRuntime) {
+fn commands(rt: HostRuntime) {
     try_places(&rt, rt.alloc(), &COMMANDS);
 }
 

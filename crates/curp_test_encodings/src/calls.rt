@@ -2,22 +2,12 @@
 
 use curp_msg::Message;
 use curp_same::Same;
-use curp_wire::{EncodeError, FrameError, decode, encode, encode_light, is_light};
+use curp_wire::{EncodeError, FrameError, decode, encode, is_light};
 use std::alloc::Global;
 
 /// The frame of a message, if it has one.
 pub(crate) fn frame_of(alloc: Global, message: &Message) -> Option<Vec<u8>> {
     encode(alloc, message).ok()
-}
-
-/// The frame of a light message, which both calls write.
-pub(crate) fn light_frame_of(alloc: Global, message: &Message) -> Option<Vec<u8>> {
-    if !is_light(message) {
-        return None;
-    }
-    let frame = encode_light(alloc, message).ok()?;
-    let other = encode(alloc, message).ok()?;
-    if frame == other { Some(frame) } else { None }
 }
 
 /// Why a message wasn't encoded.
@@ -33,7 +23,7 @@ pub(crate) fn message_in(alloc: Global, bytes: &[u8]) -> Option<Message> {
     }
 }
 
-pub(crate) fn read_frame(alloc: Global, bytes: &[u8]) -> Result<(Message, usize), FrameError> {
+fn read_frame(alloc: Global, bytes: &[u8]) -> Result<(Message, usize), FrameError> {
     decode(alloc, bytes)
 }
 
@@ -41,7 +31,7 @@ pub(crate) fn is_light_message(message: &Message) -> bool {
     is_light(message)
 }
 
-pub(crate) fn are_same(one: &Message, other: &Message) -> bool {
+fn are_same(one: &Message, other: &Message) -> bool {
     one.same(other)
 }
 

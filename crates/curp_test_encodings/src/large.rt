@@ -33,7 +33,7 @@ fn is_heavy(body: Body) -> bool {
 }
 
 /// So many times the largest request.
-fn frozen_requests(rt: &impl Abort, alloc: Global, count: usize) -> Body {
+fn frozen(rt: &impl Abort, alloc: Global, count: usize) -> Body {
     let each = held(rt, alloc, request(largest(rt, value(rt, &[255; 128]))));
     let mut requests = Vec::new(alloc);
     for _ in 0..count {
@@ -49,8 +49,8 @@ fn frozen_requests(rt: &impl Abort, alloc: Global, count: usize) -> Body {
 fn requests_of_a_witness(rt: HostRuntime) {
     let alloc = rt.alloc();
     let length = 4 + 11 + 4 + 19_999 * (12 + 2 + 4 * 162);
-    assert!(rt; has_frame_of(alloc, frozen_requests(&rt, alloc, 19_999), length));
-    assert!(rt; is_heavy(frozen_requests(&rt, alloc, 20_000)));
+    assert!(rt; has_frame_of(alloc, frozen(&rt, alloc, 19_999), length));
+    assert!(rt; is_heavy(frozen(&rt, alloc, 20_000)));
 }
 
 /// More than 2^24 bytes stand behind the length.
@@ -58,7 +58,7 @@ fn requests_of_a_witness(rt: HostRuntime) {
 fn more_requests_of_a_witness(rt: HostRuntime) {
     let alloc = rt.alloc();
     let length = 4 + 11 + 4 + 25_344 * (12 + 2 + 4 * 162);
-    assert!(rt; has_frame_of(alloc, frozen_requests(&rt, alloc, 25_344), length));
+    assert!(rt; has_frame_of(alloc, frozen(&rt, alloc, 25_344), length));
 }
 
 /// A key of 32 bytes that begins with the number.
