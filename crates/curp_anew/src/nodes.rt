@@ -13,7 +13,7 @@ ghost use Rattle.curp_anew.specs.Opening.{IsOpening};
 use curp_base::NoMemory;
 use curp_msg::{Config, Header};
 use curp_nodes::{BackupNode, ClientNode, ManagerNode, MasterNode, WitnessNode};
-use curp_slots::ShapeError;
+use curp_slots::BadShape;
 use std::alloc::{AllocError, Global};
 
 /// The nodes of a run: those of a world before any step, and behind them the fresh ones that recoveries will name.
@@ -157,7 +157,7 @@ pub fn fresh_witness(alloc: Global, header: &Header, number: u32) -> Result<Witn
 {
     match WitnessNode::fresh(alloc, number, header.sets, header.ways) {
         Ok(witness) => Ok(witness),
-        // The header's shape is in range, so only memory can be wanting.
-        Err(ShapeError::BadShape | ShapeError::NoMemory) => Err(AllocError),
+        // The header's shape is in range.
+        Err(BadShape) => Err(AllocError),
     }
 }

@@ -31,7 +31,8 @@
 //! - `MasterNode::new(alloc, part, backups, witnesses, lo, hi)`, `BackupNode::new(alloc, number, 1)`,
 //!   `WitnessNode::new(alloc, number, sets, ways, 1)`: at opening alone, at epoch 1.
 //! - `MasterNode::fresh`, `BackupNode::fresh`, `WitnessNode::fresh`: those that a recovery or a replacement names later.
-//!   They wait for the manager's message. A witness takes all its memory when it is made, the others as they need it.
+//!   They wait for the manager's message. A witness takes all its memory when it is started, by `WitnessNode::new` or by
+//!   its `Start`, the others as they need it.
 //!
 //! # Who is ordered what, and when
 //!
@@ -96,7 +97,7 @@ pub use curp_msg::{
     Capture, Completed, Config, Core, Done, Header, Input, Local, Message, PartConfig, Protocol,
 };
 pub use curp_nodes::{BackupNode, ClientNode, ManagerNode, MasterNode, WitnessNode};
-pub use curp_slots::ShapeError;
+pub use curp_slots::{BadShape, ShapeError};
 
 /// All nodes of a header, as they are before any step.
 pub mod opening {

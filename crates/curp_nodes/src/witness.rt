@@ -1,15 +1,15 @@
-ghost use Rattle.std.specs.Prelude.{◌≡◌, ◌<◌, ◌↔◌, ◌⊎◌, Err, IfOk};
+ghost use Rattle.std.specs.Prelude.{◌≡◌, ◌<◌, ◌↔◌, ◌⊎◌, Err, IfOk, IsErr};
 ghost use Rattle.curp_cmd.specs.Node.{witness_node};
-ghost use Rattle.curp_model.specs.Witness.{HoldsInOrder, fresh_witness, on_witness, started_witness};
-ghost use Rattle.curp_msg.specs.Moved.{Moves, numbered_move, says};
+ghost use Rattle.curp_model.specs.Witness.{HoldsInOrder, fresh_witness, on_witness, start, started_witness};
+ghost use Rattle.curp_msg.specs.Moved.{Moves, numbered_move, quiet, says};
 
 use curp_base::{Items, NoMemory};
 use curp_cmd::NodeId;
 use curp_msg::{
     Accepted, Body, Collected, Core, Done, Gc, GcAnswer, Local, Message, Probe, Probed, Record,
-    Rejected,
+    Rejected, Start,
 };
-use curp_slots::{GcError, RecordAnswer, ShapeError, Witness};
+use curp_slots::{BadShape, GcError, RecordAnswer, ShapeError, StartError, Witness};
 use std::alloc::{AllocError, Global};
 use std::marker::Model;
 
@@ -40,17 +40,11 @@ impl Model for WitnessNode {
 }
 
 impl WitnessNode {
-    /// A witness of that number that wasn't started, and holds nothing. All memory for its slots is taken here.
-    pub fn fresh(
-        alloc: Global,
-        number: u32,
-        sets: u32,
-        ways: u32,
-    ) -> Result<WitnessNode, ShapeError>
+    /// A witness of that number that wasn't started, and holds nothing. It takes no memory until it is.
+    pub fn fresh(alloc: Global, number: u32, sets: u32, ways: u32) -> Result<WitnessNode, BadShape>
         ensures number { IfOk result (λ w. w.number ≡ number) }
         ensures state { IfOk result (λ w. w.state ≡ fresh_witness sets ways) }
-        ensures bad_shape { (result ≡ Err ShapeError.BadShape)
-            ↔ ((sets < 1) ⊎ ((1024 < sets) ⊎ ((ways < 1) ⊎ (16 < ways)))) }
+        ensures bad_shape { IsErr result ↔ ((sets < 1) ⊎ ((1024 < sets) ⊎ ((ways < 1) ⊎ (16 < ways)))) }
     {
         let witness = Witness::new(alloc, sets, ways)?;
         Ok(WitnessNode {
@@ -74,9 +68,7 @@ impl WitnessNode {
         ensures bad_shape { (result ≡ Err ShapeError.BadShape)
             ↔ ((sets < 1) ⊎ ((1024 < sets) ⊎ ((ways < 1) ⊎ (16 < ways)))) }
     {
-        let mut witness = Witness::new(alloc, sets, ways)?;
-        // A fresh witness takes each epoch.
-        let _started = witness.start(1, epoch);
+        let witness = Witness::started(alloc, sets, ways, epoch)?;
         Ok(WitnessNode {
             alloc,
             number,
@@ -139,6 +131,19 @@ impl WitnessNode {
         Ok(Done::sends(messages))
     }
 
+    // Where there is no memory for its slots it isn't started, and may be when the message comes again.
+    fn on_start(&mut self, asked: &Start) -> Result<Done, NoMemory>
+        ensures { Moves self.old self.new result
+            (numbered_move self.old.number (quiet (start self.old.state asked.now.epoch))) }
+    {
+        match self.witness.start(asked.part, asked.epoch) {
+            Ok(()) => Ok(Done::quiet(self.alloc)),
+            // It stays as it was.
+            Err(StartError::NotIdle { .. }) => Ok(Done::quiet(self.alloc)),
+            Err(StartError::NoMemory) => Err(AllocError),
+        }
+    }
+
     #[tactic(auto, unfolding(curp_model::specs::Witness::on_witness))]
     fn on_freeze(&mut self, from: NodeId, epoch: u32) -> Result<Done, NoMemory>
         ensures { Moves self.old self.new result
@@ -181,10 +186,7 @@ impl Core for WitnessNode {
         match &message.body {
             Body::Record(asked) => self.on_record(message.from, asked),
             Body::Gc(asked) => self.on_gc(message.from, asked),
-            Body::Start(start) => {
-                let _started = self.witness.start(start.part, start.epoch);
-                Ok(Done::quiet(self.alloc))
-            }
+            Body::Start(asked) => self.on_start(asked),
             Body::Freeze { epoch } => self.on_freeze(message.from, *epoch),
             Body::Probe(asked) => self.on_probe(message.from, asked),
             _ => Ok(Done::quiet(self.alloc)),

@@ -8,7 +8,7 @@ ghost use Rattle.curp_opening.specs.Nodes.{HasNumbers, IsAhead, states};
 
 use curp_base::NoMemory;
 use curp_nodes::{BackupNode, MasterNode, WitnessNode};
-use curp_slots::ShapeError;
+use curp_slots::BadShape;
 use std::alloc::{AllocError, Global};
 
 /// Fresh masters below that number are there. It takes no memory, since there is room.
@@ -39,8 +39,8 @@ pub fn add_backups(alloc: Global, backups: &mut Vec<BackupNode>, next: u32)
     }
 }
 
-/// Makes so many fresh witnesses, as far as they aren't made yet, numbered behind those that are there. All memory for
-/// their slots is taken here. Where it wants, what was made stays made.
+/// Makes so many fresh witnesses, as far as they aren't made yet, numbered behind those that are there. They have no
+/// slots before they are started. Where memory wants, what was made stays made.
 pub fn make_ahead(
     alloc: Global,
     ahead: &mut Vec<WitnessNode>,
@@ -67,8 +67,8 @@ fn fresh_witness(alloc: Global, number: u32, sets: u32, ways: u32) -> Result<Wit
 {
     match WitnessNode::fresh(alloc, number, sets, ways) {
         Ok(witness) => Ok(witness),
-        // The header's shape is in range, so only memory can be wanting.
-        Err(ShapeError::BadShape | ShapeError::NoMemory) => Err(AllocError),
+        // The header's shape is in range.
+        Err(BadShape) => Err(AllocError),
     }
 }
 

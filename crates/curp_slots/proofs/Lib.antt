@@ -2,6 +2,7 @@ pub mod Accepting
 pub mod Filling
 pub mod Gaps
 pub mod Holdings
+pub mod Modes
 pub mod Registers
 pub mod Sortings
 pub mod Taken

@@ -1,33 +1,29 @@
 -- What a witness answers.
-use Rattle.std.specs.Prelude.{◌≡◌, Bool, true, false, IsTrue, Option, Some, None, Result, Ok, Err}
+use Rattle.std.specs.Prelude.{◌≡◌, ◌≢◌, Bool, true, false, IsTrue, Option, Some, None, Result, Ok, Err}
 use Rattle.std.specs.Global.{Vec}
 use Rattle.curp_cmd.specs.declared.command.Request.{Request}
-use Rattle.curp_model.specs.Witness.{WitnessState}
 use Rattle.curp_model.specs.declared.Mode.{Mode}
-use Rattle.curp_model.specs.declared.Mode.TheVariants.{Idle, Normal, Frozen}
+use Rattle.curp_model.specs.declared.Mode.TheVariants.{Idle}
 use Rattle.curp_msg.specs.declared.answer.GcAnswer.{GcAnswer}
 use Rattle.curp_msg.specs.declared.answer.GcAnswer.TheVariants as collected
 use Rattle.curp_msg.specs.declared.answer.Reason.{Reason}
 use Rattle.curp_slots.specs.declared.error.GcError.{GcError}
 use Rattle.curp_slots.specs.declared.error.GcError.TheVariants as error
-use Rattle.curp_slots.specs.declared.error.NotIdle.{NotIdle}
-use Rattle.curp_slots.specs.declared.witness.RecordAnswer.{RecordAnswer}
-use Rattle.curp_slots.specs.declared.witness.RecordAnswer.TheVariants.{Accepted, Rejected}
+use Rattle.curp_slots.specs.declared.error.StartError.{StartError}
+use Rattle.curp_slots.specs.declared.error.StartError.TheVariants as not_started
+use Rattle.curp_slots.specs.declared.answer.RecordAnswer.{RecordAnswer}
+use Rattle.curp_slots.specs.declared.answer.RecordAnswer.TheVariants.{Accepted, Rejected}
 
 -- why it doesn't hold a request: for none of the reasons where it does
 abbrev pub refusal : RecordAnswer → Option Reason
 refusal Accepted = None
 refusal (Rejected why) = Some why
 
--- by its mode
-abbrev pub started_in : Mode → Result (Unit {0}) NotIdle
-started_in Idle = Ok tt
-started_in Normal = Err (record { mode = Normal })
-started_in Frozen = Err (record { mode = Frozen })
-
--- only one that wasn't started is started
-abbrev pub start_answer : WitnessState → Result (Unit {0}) NotIdle
-start_answer w = started_in w.mode
+-- only an idle one is started, and only then memory may be wanting
+abbrev pub AnswersStart : Result (Unit {0}) StartError → Mode → Type 0
+AnswersStart (Ok _) mode = mode ≡ Idle
+AnswersStart (Err (not_started.NotIdle own)) mode = (own ≡ mode) × (mode ≢ Idle)
+AnswersStart (Err not_started.NoMemory) mode = mode ≡ Idle
 
 -- suspects are told
 abbrev pub gives_suspects : GcAnswer → Bool

@@ -2,5 +2,8 @@ pub mod Answers
 pub mod Collection
 pub mod Hashed
 pub mod Holding
+pub mod Modes
 pub mod Register
+pub mod Shape
 pub mod Slots
+pub mod Stage

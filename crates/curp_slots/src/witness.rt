@@ -1,16 +1,12 @@
-ghost use Rattle.std.specs.Prelude.{◌≡◌, ◌<◌, ◌≤◌, ◌↔◌, ◌⊎◌, ◌≢◌, false, length, IfOk, OnOk, OnErr, Err};
-ghost use Rattle.curp_cmd.specs.Hash.{hashes as each_once};
-ghost use Rattle.curp_model.specs.Witness.{HoldsInOrder, by_room, collect, conflict, freeze, fresh_witness, frozen_requests, full_set};
-ghost use Rattle.curp_model.specs.Witness.{gc, hold, holds, is_live, start, stranger_to, suspects, turned_away};
-ghost use Rattle.curp_slots.specs.Answers.{AnswersGc, refusal, start_answer};
-ghost use Rattle.curp_slots.specs.Holding.{with_owner_marked, with_owners_marked};
-ghost use Rattle.curp_slots.specs.Slots.{owner};
+ghost use Rattle.std.specs.Prelude.{◌≡◌, ◌<◌, ◌↔◌, ◌⊎◌, ◌≢◌, IfOk, IsErr, OnOk, OnErr, Err};
+ghost use Rattle.curp_model.specs.Witness.{HoldsInOrder, freeze, fresh_witness, frozen_requests};
+ghost use Rattle.curp_model.specs.Witness.{gc, hold, holds, is_live, start, started_witness};
+ghost use Rattle.curp_slots.specs.Answers.{AnswersGc, AnswersStart, refusal};
+ghost use Rattle.curp_slots.specs.Shape.{IsShape};
 
-use crate::hashes::AscendingHashes;
-use crate::listed::Listed;
-use crate::register::Register;
-use crate::slots::Slots;
-use crate::{GcError, NotIdle, ShapeError};
+use crate::answer::RecordAnswer;
+use crate::error::{BadShape, GcError, ShapeError, StartError};
+use crate::started::StartedWitness;
 use curp_base::{NoMemory, Shared};
 use curp_cmd::{Request, RequestId};
 use curp_model::Mode;
@@ -18,88 +14,92 @@ use curp_msg::Reason;
 use std::alloc::Global;
 use std::marker::Model;
 
-/// What a witness answers to a request.
-#[derive(Clone, Copy, PartialEq, Eq)]
-pub enum RecordAnswer {
-    /// It holds the request, or held one with that id already.
-    Accepted,
-    /// It doesn't hold the request, for that reason.
-    Rejected(Reason),
-}
-
-/// A witness: it holds requests that don't conflict, until they are stored.
+/// A witness: it holds requests that don't conflict, until they are stored. One that wasn't started takes no memory.
 pub struct Witness {
     alloc: Global,
-    mode: Mode,
-    epoch: Option<u32>,
-    slots: Slots,
-    register: Register,
+    stage: Stage,
+}
+
+// Whether a witness was started, and so has room.
+#[derive(Drop)]
+enum Stage {
+    // Its shape alone. Once it is frozen it is never started.
+    Unstarted { frozen: bool, sets: u32, ways: u32 },
+    Started(StartedWitness),
 }
 
 impl Drop for Witness {
     fn drop(self) {
-        let Witness {
-            alloc: _,
-            mode: _,
-            epoch: _,
-            slots: _,
-            register: _,
-        } = self;
+        let Witness { alloc: _, stage: _ } = self;
     }
 }
 
 impl Model for Witness {
-    ghost use Rattle.std.specs.Prelude.{length};
     ghost use Rattle.curp_model.specs.Witness.{WitnessState};
-    ghost use Rattle.curp_slots.specs.Holding.{SlotsTell};
 
     ghost Value = { WitnessState };
 
-    ghost view = { λ w. record {
-      mode = w.mode;
-      epoch = w.epoch;
-      sets = length w.slots.sets;
-      ways = w.slots.ways;
-      held = w.register.held;
-    } };
+    ghost use Rattle.curp_slots.specs.Stage.{HasShape, state_of};
 
-    ghost invariant = { λ w. SlotsTell w.slots w.register };
+    ghost view = { λ w. state_of w.stage };
+
+    ghost invariant = { λ w. HasShape w.stage };
 }
 
 impl Witness {
-    /// A witness that wasn't started, with so many sets of so many slots. All the memory that it needs to hold requests
-    /// is taken here.
-    pub fn new(alloc: Global, sets: u32, ways: u32) -> Result<Witness, ShapeError>
+    /// A witness that wasn't started, with so many sets of so many slots. It takes no memory.
+    pub fn new(alloc: Global, sets: u32, ways: u32) -> Result<Witness, BadShape>
         ensures ok { IfOk result (λ witness. witness ≡ fresh_witness sets ways) }
-        ensures bad_shape { (result ≡ Err ShapeError.BadShape)
-            ↔ ((sets < 1) ⊎ ((1024 < sets) ⊎ ((ways < 1) ⊎ (16 < ways)))) }
+        ensures bad_shape { IsErr result ↔ ((sets < 1) ⊎ ((1024 < sets) ⊎ ((ways < 1) ⊎ (16 < ways)))) }
     {
-        if !(1..=1024).contains(&sets) || !(1..=16).contains(&ways) {
-            return Err(ShapeError::BadShape);
-        }
-        let slots = Slots::new(alloc, sets, ways)?;
-        let register = Register::new(alloc, sets * ways)?;
+        check_shape(sets, ways)?;
         Ok(Witness {
             alloc,
-            mode: Mode::Idle,
-            epoch: None,
-            slots,
-            register,
+            stage: Stage::Unstarted {
+                frozen: false,
+                sets,
+                ways,
+            },
         })
     }
 
-    /// Starts the witness at that epoch, once. Nothing that it answers depends on the partition, so that takes no part.
-    pub fn start(&mut self, _part: u32, epoch: u32) -> Result<(), NotIdle>
-        ensures state { self.new ≡ start self.old epoch }
-        ensures answer { result ≡ start_answer self.old }
+    /// A witness that was started at that epoch, and holds nothing, with so many sets of so many slots.
+    pub fn started(alloc: Global, sets: u32, ways: u32, epoch: u32) -> Result<Witness, ShapeError>
+        ensures ok { IfOk result (λ witness. witness ≡ started_witness sets ways epoch) }
+        ensures bad_shape { (result ≡ Err ShapeError.BadShape)
+            ↔ ((sets < 1) ⊎ ((1024 < sets) ⊎ ((ways < 1) ⊎ (16 < ways)))) }
     {
-        match self.mode {
-            Mode::Idle => {
-                self.mode = Mode::Normal;
-                self.epoch = Some(epoch);
+        check_shape(sets, ways)?;
+        let started = StartedWitness::new(alloc, sets, ways, epoch)?;
+        Ok(Witness {
+            alloc,
+            stage: Stage::Started(started),
+        })
+    }
+
+    /// Starts the witness at that epoch, once. All the memory that it needs to hold requests is taken here. Nothing that
+    /// it answers depends on the partition, so that takes no part.
+    pub fn start(&mut self, _part: u32, epoch: u32) -> Result<(), StartError>
+        ensures state { result ≢ Err StartError.NoMemory → self.new ≡ start self.old epoch }
+        ensures answer { AnswersStart result self.old.mode }
+        ensures err { OnErr result (self.new ≡ self.old) }
+    {
+        match &self.stage {
+            Stage::Unstarted {
+                frozen: false,
+                sets,
+                ways,
+            } => {
+                let started = StartedWitness::new(self.alloc, *sets, *ways, epoch)?;
+                self.stage = Stage::Started(started);
                 Ok(())
             }
-            mode => Err(NotIdle { mode }),
+            Stage::Unstarted { frozen: true, .. } => Err(StartError::NotIdle {
+                mode: Mode::Frozen,
+            }),
+            Stage::Started(started) => Err(StartError::NotIdle {
+                mode: started.mode(),
+            }),
         }
     }
 
@@ -113,14 +113,11 @@ impl Witness {
         ensures state { self.new ≡ (hold self.old epoch request).state }
         ensures answer { refusal result ≡ (hold self.old epoch request).reason }
     {
-        if let Some(why) = self.turned_away(epoch) {
-            return RecordAnswer::Rejected(why);
+        match &mut self.stage {
+            Stage::Unstarted { frozen: true, .. } => RecordAnswer::Rejected(Reason::Frozen),
+            Stage::Unstarted { frozen: false, .. } => RecordAnswer::Rejected(Reason::Idle),
+            Stage::Started(started) => started.hold(epoch, request),
         }
-        if self.holds(&request.id) {
-            return RecordAnswer::Accepted;
-        }
-        let hashes = AscendingHashes::of(&request.command);
-        self.hold_new(request, hashes.as_slice())
     }
 
     /// A collection: the listed requests are dropped, and what remains has survived one more collection. It gives the
@@ -133,13 +130,9 @@ impl Witness {
         ensures answer { AnswersGc result (gc self.old epoch ids.now).answer }
         ensures err { OnErr result (self.new ≡ self.old) }
     {
-        if self.epoch != Some(epoch) {
-            return Err(GcError::Stranger { epoch: self.epoch });
-        }
-        match self.mode {
-            Mode::Normal => Ok(self.collect(ids)?),
-            Mode::Frozen => Ok(Vec::new(self.alloc)),
-            Mode::Idle => Err(GcError::Stranger { epoch: self.epoch }),
+        match &mut self.stage {
+            Stage::Unstarted { .. } => Err(GcError::Stranger { epoch: None }),
+            Stage::Started(started) => started.gc(self.alloc, epoch, ids),
         }
     }
 
@@ -150,18 +143,22 @@ impl Witness {
         ensures answer { IfOk result (λ requests. requests.items ≡ frozen_requests self.old) }
         ensures err { OnErr result (self.new ≡ self.old) }
     {
-        let requests = self.register.by_least_hash(self.alloc)?;
-        self.mode = Mode::Frozen;
-        Ok(requests)
+        match &mut self.stage {
+            Stage::Unstarted { frozen, .. } => {
+                *frozen = true;
+                Ok(Vec::new(self.alloc))
+            }
+            Stage::Started(started) => started.freeze(self.alloc),
+        }
     }
 
     /// Whether it takes requests of that epoch: it was started at it, and isn't frozen.
     pub fn probe(&self, epoch: u32) -> bool
         ensures { result ≡ is_live self.now.mode self.now.epoch epoch }
     {
-        match self.mode {
-            Mode::Normal => self.epoch == Some(epoch),
-            Mode::Idle | Mode::Frozen => false,
+        match &self.stage {
+            Stage::Unstarted { .. } => false,
+            Stage::Started(started) => started.probe(epoch),
         }
     }
 
@@ -169,110 +166,52 @@ impl Witness {
     pub fn mode(&self) -> Mode
         ensures { result ≡ self.now.mode }
     {
-        self.mode
+        match &self.stage {
+            Stage::Unstarted { frozen: false, .. } => Mode::Idle,
+            Stage::Unstarted { frozen: true, .. } => Mode::Frozen,
+            Stage::Started(started) => started.mode(),
+        }
     }
 
     /// The epoch at which it was started, if it was.
     pub fn epoch(&self) -> Option<u32>
         ensures { result ≡ self.now.epoch }
     {
-        self.epoch
+        match &self.stage {
+            Stage::Unstarted { .. } => None,
+            Stage::Started(started) => Some(started.epoch()),
+        }
     }
 
     /// What it holds stands in ascending order of the ids, whatever came.
     pub fn holds_in_order(&self)
         ensures { HoldsInOrder self.now }
     {
-        let _register = &self.register;
+        match &self.stage {
+            Stage::Unstarted { .. } => (),
+            Stage::Started(started) => started.holds_in_order(),
+        }
     }
 
     /// Whether it holds the request with that id.
     pub fn holds(&self, id: &RequestId) -> bool
         ensures { result ≡ holds self.now id.now }
     {
-        self.register.holds(id)
-    }
-
-    // Why it turns away whatever comes at that epoch.
-    fn turned_away(&self, epoch: u32) -> Option<Reason>
-        ensures { result ≡ turned_away self.now.mode (stranger_to epoch self.now.epoch) }
-    {
-        if let Mode::Idle = self.mode {
-            return Some(Reason::Idle);
+        match &self.stage {
+            Stage::Unstarted { .. } => false,
+            Stage::Started(started) => started.holds(id),
         }
-        if let Some(epoch) = self.stranger_to(epoch) {
-            return Some(Reason::Stranger { epoch });
-        }
-        match self.mode {
-            Mode::Frozen => Some(Reason::Frozen),
-            _ => None,
-        }
-    }
-
-    // The epoch at which it was started, if it isn't that one.
-    fn stranger_to(&self, epoch: u32) -> Option<u32>
-        ensures { result ≡ stranger_to epoch self.now.epoch }
-    {
-        match self.epoch {
-            Some(own) if own != epoch => Some(own),
-            _ => None,
-        }
-    }
-
-    // Drops the listed requests, and gives the suspects among what remains.
-    fn collect(&mut self, ids: &[RequestId]) -> Result<Vec<Shared<Request>>, NoMemory>
-        ensures state { OnOk result (self.new ≡ collect self.old ids.now) }
-        ensures answer { IfOk result (λ requests. requests.items ≡ suspects (collect self.old ids.now)) }
-        ensures err { OnErr result (self.new ≡ self.old) }
-    {
-        let listed = Listed::of(self.alloc, ids)?;
-        let suspects = self.register.suspects(self.alloc, &listed)?;
-        self.slots.free(&listed);
-        self.register.collect(&listed);
-        Ok(suspects)
-    }
-
-    // Holds a request with those hashes and an id that isn't held, if there is room for it.
-    fn hold_new(&mut self, request: Shared<Request>, hashes: &[u64]) -> RecordAnswer
-        requires new { holds self.old request.id ≡ false }
-        requires hashes { hashes.now ≡ each_once request.command }
-        requires some { 1 ≤ length hashes.now }
-        requires few { length hashes.now ≤ 4 }
-        ensures state { let held = conflict self.old request in
-            self.new ≡ (by_room self.old request held (full_set self.old request)).state }
-        ensures answer { let held = conflict self.old request in
-            refusal result ≡ (by_room self.old request held (full_set self.old request)).reason }
-    {
-        if let Some(held) = self.slots.least_owner(hashes) {
-            mark_owners(&self.slots, &mut self.register, hashes);
-            return RecordAnswer::Rejected(Reason::Conflict { held });
-        }
-        if let Some(set) = self.slots.full_set(hashes) {
-            return RecordAnswer::Rejected(Reason::SetFull { set });
-        }
-        self.slots.take(hashes, &request.id);
-        self.register.add(request);
-        RecordAnswer::Accepted
     }
 }
 
-/// Marks the requests that have a slot for one of the hashes.
-fn mark_owners(slots: &Slots, register: &mut Register, hashes: &[u64])
-    ensures { register.new
-        ≡ record register.old { held = with_owners_marked slots.now.sets hashes.now register.old.held } }
+/// Whether there are witnesses with so many sets of so many slots.
+fn check_shape(sets: u32, ways: u32) -> Result<(), BadShape>
+    ensures ok { IfOk result (λ _. IsShape sets ways) }
+    ensures bad_shape { IsErr result ↔ ((sets < 1) ⊎ ((1024 < sets) ⊎ ((ways < 1) ⊎ (16 < ways)))) }
 {
-    if let [hash, rest @ ..] = hashes {
-        mark_owner(slots, register, *hash);
-        mark_owners(slots, register, rest);
-    }
-}
-
-/// Marks the request that has a slot for the hash, if one has it.
-fn mark_owner(slots: &Slots, register: &mut Register, hash: u64)
-    ensures { register.new
-        ≡ record register.old { held = with_owner_marked (owner slots.now.sets hash) register.old.held } }
-{
-    if let Some(id) = slots.owner(hash) {
-        register.mark(&id);
+    if (1..=1024).contains(&sets) && (1..=16).contains(&ways) {
+        Ok(())
+    } else {
+        Err(BadShape)
     }
 }

@@ -5,7 +5,7 @@ use curp_base::Shared;
 use curp_cmd::{Command, Hashes, Request, RequestId};
 use curp_model::Mode;
 use curp_msg::Reason;
-use curp_slots::{GcError, NotIdle, RecordAnswer, ShapeError, Witness};
+use curp_slots::{BadShape, GcError, RecordAnswer, StartError, Witness};
 use std::alloc::Global;
 use std::process::Abort;
 
@@ -25,8 +25,12 @@ fn idle(rt: &impl Abort, alloc: Global, sets: u32, ways: u32) -> Witness {
     must(rt, Witness::new(alloc, sets, ways))
 }
 
-fn try_start(rt: &impl Abort, witness: &mut Witness, epoch: u32, answer: Result<(), NotIdle>) {
+fn try_start(rt: &impl Abort, witness: &mut Witness, epoch: u32, answer: Result<(), StartError>) {
     right(rt, witness.start(1, epoch) == answer, "start");
+}
+
+fn not_idle(mode: Mode) -> StartError {
+    StartError::NotIdle { mode }
 }
 
 fn started(rt: &impl Abort, alloc: Global, sets: u32, ways: u32) -> Witness {
@@ -90,7 +94,7 @@ fn try_frozen(rt: &impl Abort, witness: &mut Witness, requests: &[Request]) {
     drop(found);
 }
 
-fn shape_error(alloc: Global, sets: u32, ways: u32) -> Option<ShapeError> {
+fn shape_error(alloc: Global, sets: u32, ways: u32) -> Option<BadShape> {
     Witness::new(alloc, sets, ways).err()
 }
 
@@ -100,7 +104,7 @@ fn has_the_shapes_that_are_allowed(rt: HostRuntime) {
         let refused = shape_error(rt.alloc(), sets, ways);
         right_at(
             &rt,
-            refused == Some(ShapeError::BadShape),
+            refused == Some(BadShape),
             "has the shapes that are allowed (1)",
             u64::from(sets),
         );
@@ -133,7 +137,7 @@ fn try_idle(rt: &impl Abort, alloc: Global, witness: &mut Witness, held: &Reques
     try_start(rt, witness, 2, Ok(()));
     try_probe(rt, witness, 2, true);
     try_probe(rt, witness, 1, false);
-    try_start(rt, witness, 2, Err(NotIdle { mode: Mode::Normal }));
+    try_start(rt, witness, 2, Err(not_idle(Mode::Normal)));
 }
 
 // What a witness with one slot answers that was started at epoch 2.
@@ -161,6 +165,19 @@ fn try_freezes(rt: &impl Abort, alloc: Global, witness: &mut Witness, held: &Req
     try_probe(rt, witness, 2, false);
     try_holds(rt, witness, &held.id);
     right(rt, witness.mode() == Mode::Frozen, "freezes");
+}
+
+#[test]
+fn stays_frozen_where_it_was_never_started(rt: HostRuntime) {
+    let mut witness = idle(&rt, rt.alloc(), 1, 1);
+    try_frozen(&rt, &mut witness, &[]);
+    try_start(&rt, &mut witness, 2, Err(not_idle(Mode::Frozen)));
+    let refused = put_by(&rt, 1, 1, b"a", b"1");
+    try_hold(&rt, rt.alloc(), &mut witness, 2, &refused, FROZEN);
+    try_stranger(&rt, &mut witness, 2, &[], None);
+    right(&rt, !witness.holds(&refused.id), "stays frozen (1)");
+    right(&rt, witness.mode() == Mode::Frozen, "stays frozen (2)");
+    drop(witness);
 }
 
 // A multi-put of four keys.

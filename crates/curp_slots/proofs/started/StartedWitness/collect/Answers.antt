@@ -1,7 +1,8 @@
-use Rattle.std.proofs.Common.{subst}
+use Rattle.std.proofs.Common.{Some, subst}
+use Rattle.curp_slots.specs.Modes.{started_mode}
 use Rattle.curp_slots.specs.Register.{IdsAscend, Registered}
 use Rattle.curp_slots.proofs.Holdings.{collect_is, left_witness, suspects_are}
-use Rattle.curp_slots.proofs.witness.Witness.collect.Goals as goal
+use Rattle.curp_slots.proofs.started.StartedWitness.collect.Goals as goal
 
 pub invariant_of-self : goal.invariant_of-self
 invariant_of-self c =
@@ -12,7 +13,7 @@ pub returns : goal.returns
 returns c =
     let w = c.self.inside in
     record {
-      state = rw (← c.self.view_is, c.free.ensures, c.collect.ensures.value) (collect_is c.in_ok-listed.listed c.args.ids.now c.in_ok-listed.ensures w.slots w.register w.mode w.epoch);
-      answer = rw (← c.self.view_is, c.in_ok-suspects.ensures) (suspects_are c.in_ok-listed.listed c.args.ids.now c.in_ok-listed.ensures w.slots w.register w.mode w.epoch);
+      state = rw (← c.self.view_is, c.free.ensures, c.collect.ensures.value) (collect_is c.in_ok-listed.listed c.args.ids.now c.in_ok-listed.ensures w.slots w.register (started_mode w.frozen) (Some w.epoch));
+      answer = rw (← c.self.view_is, c.in_ok-suspects.ensures) (suspects_are c.in_ok-listed.listed c.args.ids.now c.in_ok-listed.ensures w.slots w.register (started_mode w.frozen) (Some w.epoch));
       err = tt;
     }

@@ -1,6 +1,6 @@
 use Rattle.std.proofs.Common.{◌*◌, arith, rules}
 use Rattle.curp_slots.proofs.Apart.{takes_nothing}
-use Rattle.curp_slots.proofs.witness.Witness.new.Goals as goal
+use Rattle.curp_slots.proofs.started.StartedWitness.new.Goals as goal
 
 pub invariant_of-result : goal.invariant_of-result
 invariant_of-result c =
