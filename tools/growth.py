@@ -36,7 +36,6 @@ COUNTED = ("calls", "bytes", "reads", "writes")
 SHORT = ["puts", "one message again and again", "`resp`", "a journal that is opened"]
 # Rows that grow faster today, with the most that they may: calls, bytes, reads, writes.
 FOUND = {
-    "replacements of a backup": (MOST, 38, MOST, MOST),
     "migrations": (MOST, 20, MOST, MOST),
     "`resp --every 20`": (25, 52, MOST, MOST),
     "`manage`, crashes behind each order": (60, 46, MOST, MOST),

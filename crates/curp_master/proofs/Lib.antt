@@ -1,5 +1,6 @@
 pub mod Collections
 pub mod Ends
+pub mod KeptUp
 pub mod Packed
 pub mod Settled
 pub mod Suffixes

@@ -14,10 +14,10 @@ use Rattle.curp_master_log.specs.Suspects.{news}
 use Rattle.curp_master_log.proofs.Suspected.{treat_is}
 use Rattle.curp_master.proofs.Ends.{lasts}
 
-kept_in : (m : MasterState) (rs : List Request) → ((treat m rs).round ≡ m.round) × ((treat m rs).captured ≡ m.captured)
+pub kept_in : (m : MasterState) (rs : List Request) → ((treat m rs).round ≡ m.round) × ((treat m rs).captured ≡ m.captured)
 kept_in m rs = (ap (λ (k : MasterState). k.round) (treat_is m rs), ap (λ (k : MasterState). k.captured) (treat_is m rs))
 
-log_length : (m : MasterState) (rs : List Request) → length (treat m rs).log ≡ length m.log + length (news m.lo m.hi m.log rs)
+pub log_length : (m : MasterState) (rs : List Request) → length (treat m rs).log ≡ length m.log + length (news m.lo m.hi m.log rs)
 log_length m rs = ap (λ (k : MasterState). length k.log) (treat_is m rs) ∙ length-append m.log (news m.lo m.hi m.log rs)
 
 pub none_pushed : (m : Node MasterState) (rs : List Request) → length (news m.state.lo m.state.hi m.state.log rs) ≡ 0

@@ -1,4 +1,5 @@
 pub mod Built
+pub mod Kept
 pub mod Moving
 pub mod Rounds
 pub mod Settling

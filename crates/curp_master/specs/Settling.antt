@@ -3,12 +3,13 @@ use Rattle.std.specs.Prelude.{ℕ, List}
 use Rattle.curp_cmd.specs.declared.node.NodeId.{NodeId}
 use Rattle.curp_model.specs.Master.{Acknowledged, MasterState, Phase, Open, Switching, prepares}
 use Rattle.curp_msg.specs.Moved.{Moved, quiet}
+use Rattle.curp_rounds.specs.Backups.{raised_by}
 
--- its backups have acknowledged so much
-abbrev pub acknowledging : MasterState → List Acknowledged → MasterState
-acknowledging m all = record m { acknowledged = all }
+-- a backup has acknowledged so much more
+abbrev pub acknowledging : MasterState → Acknowledged → MasterState
+acknowledging m more = record m { acknowledged = raised_by m.acknowledged more }
 
--- and the list has these backups, at that version
+-- its backups have acknowledged so much, and the list has these backups, at that version
 abbrev pub listing : MasterState → List Acknowledged → List NodeId → ℕ → MasterState
 listing m all backups version = record m { acknowledged = all; backups = backups; version = version }
 

@@ -10,9 +10,9 @@
 //!   witnesses may drop, and what they still hold), `switching` (new lists), `moving` (ranges that come and go, clients
 //!   that are gone).
 //! - A read waits with the value of its arrival, and is answered once each backup of the list has acknowledged the
-//!   log's length of then and the round that was begun for it. All that a read costs is that round, and a look at those
-//!   that wait for each answer of a backup. One that asks for an answer at once gets it where no entry that isn't synced
-//!   touches its key, and costs no round; else it waits as any other.
+//!   log's length of then and the round that was begun for it. All that a read costs is that round: what a backup answers
+//!   looks at those alone that are answered by it. One that asks for an answer at once gets it where no entry that isn't
+//!   synced touches its key, and costs no round; else it waits as any other.
 //! - Its log is a `MasterLog`, and what waits for collection is a `Queue`. All memory of an input is taken before
 //!   anything changes.
 #![tactic(auto)]

@@ -12,8 +12,7 @@ use curp_log::Log;
 use curp_master_log::MasterLog;
 use curp_model::Wish;
 use curp_msg::{Body, Done, Local, Message};
-use curp_rounds::acknowledged::{Acknowledged, all_at, least_length, set_all};
-use curp_rounds::{Captured, Captures, Indexes, MasterPhase};
+use curp_rounds::{Acknowledgements, Captured, Captures, Heard, Indexes, MasterPhase};
 use curp_tail::Queue;
 use std::alloc::Global;
 use std::marker::Model;
@@ -28,7 +27,7 @@ pub struct Master {
     pub(crate) backups: Vec<NodeId>,
     pub(crate) witnesses: Vec<NodeId>,
     pub(crate) master_log: MasterLog,
-    pub(crate) acknowledged: Vec<Acknowledged>,
+    pub(crate) acknowledged: Acknowledgements,
     pub(crate) settled: u64,
     pub(crate) round: u64,
     pub(crate) captures: Captures,
@@ -63,8 +62,8 @@ impl Model for Master {
     ghost use Rattle.std.specs.Prelude.{◌≡◌};
     ghost use Rattle.curp_model.specs.Master.{MasterState};
     ghost use Rattle.curp_msg.specs.Moved.{Node};
-    ghost use Rattle.curp_rounds.specs.Backups.{stored_by_all};
     ghost use Rattle.curp_rounds.specs.Phases.{phase_of};
+    ghost use Rattle.curp_master.specs.Kept.{IsKeptUp};
 
     ghost Value = { Node MasterState };
 
@@ -79,7 +78,7 @@ impl Model for Master {
         lo = m.master_log.kept.lo;
         hi = m.master_log.kept.hi;
         log = m.master_log.kept.entries;
-        acknowledged = m.acknowledged.items;
+        acknowledged = m.acknowledged;
         settled = m.settled;
         round = m.round;
         captures = m.captures.waiting;
@@ -91,7 +90,7 @@ impl Model for Master {
       };
     } };
 
-    ghost invariant = { λ m. m.master_log.kept.synced ≡ stored_by_all m.acknowledged.items m.backups.items };
+    ghost invariant = { λ m. IsKeptUp m.master_log.kept m.acknowledged m.backups.items m.captures.last m.round };
 }
 
 impl Master {
@@ -114,7 +113,7 @@ impl Master {
           witnesses = witnesses.items;
         }) }
     {
-        let acknowledged = all_at(alloc, &backups, 0, 0)?;
+        let acknowledged = Acknowledgements::all_at(alloc, &backups, 0, 0)?;
         Ok(Shell {
             alloc,
             number,
@@ -144,8 +143,8 @@ impl Master {
             mut acknowledged,
         } = shell;
         let settled = log.len();
-        set_all(&mut acknowledged, settled, round);
-        let synced = least_length(&acknowledged, &backups);
+        acknowledged.set_all(settled, round);
+        let synced = Heard::so_far(&acknowledged).least_length(&backups);
         Master {
             alloc,
             number,
@@ -242,8 +241,6 @@ impl Master {
         ensures value { result ≡ self.now.state.captured }
         ensures numbered { Each (λ capture. capture.number ≤ self.now.state.captured) self.now.state.captures }
     {
-        // For its clause alone.
-        let _waiting = self.captures.waiting();
         self.captures.count()
     }
 
@@ -252,7 +249,7 @@ impl Master {
         ensures { option_copied result
             ≡ slice_get self.now.state.captures (length self.now.state.captures - 1) }
     {
-        self.captures.waiting().last()
+        self.captures.last()
     }
 
     pub fn epoch(&self) -> u32

@@ -10,8 +10,7 @@ use curp_base::{Items, NoMemory, copies_of, past};
 use curp_cmd::{Entry, NodeId};
 use curp_master_log::suffix_with;
 use curp_msg::{Append, Done, Message};
-use curp_rounds::acknowledged::{least_length, length_from};
-use curp_rounds::{MasterPhase, messages};
+use curp_rounds::{Heard, MasterPhase, messages};
 
 impl Master {
     /// A round begins.
@@ -61,7 +60,7 @@ impl Master {
             (at_round (in_phase self.now (phase_of phase.now)).state round more.now)) }
     {
         let backups = phase.stored_on(self.alloc, &self.backups)?;
-        let stored = least_length(&self.acknowledged, &backups);
+        let stored = Heard::so_far(&self.acknowledged).least_length(&backups);
         let lacking = suffix_with(self.alloc, self.master_log.log(), stored, more)?;
         let mut sent = Vec::with_capacity(self.alloc, backups.len())?;
         for backup in &backups {
@@ -82,7 +81,7 @@ impl Master {
         ensures { IfOk result (λ message. message
             ≡ append_from self.now.number self.now.state round stored lacking.now backup.now) }
     {
-        let base = length_from(&self.acknowledged, backup);
+        let base = self.acknowledged.reach_of(backup).long;
         let entries = copies_of(self.alloc, past(lacking, base - stored))?;
         Ok(messages::append(
             self.number,

@@ -1,4 +1,4 @@
-ghost use Rattle.std.specs.Prelude.{◌≡◌, ◌++◌, length, slice_get, IfOk, OnOk};
+ghost use Rattle.std.specs.Prelude.{◌≡◌, ◌++◌, length, slice_get, IfOk, OnOk, OnErr};
 ghost use Rattle.curp_model.specs.Master.{on_appended, on_stored, settle, synced_replies, synced_reply};
 ghost use Rattle.curp_msg.specs.Moved.{Moves};
 ghost use Rattle.curp_master.specs.Built.{move_of};
@@ -9,9 +9,7 @@ use curp_base::{Boxed, NoMemory};
 use curp_cmd::NodeId;
 use curp_master_log::only;
 use curp_msg::{AppendAnswer, Appended, Done, Message};
-use curp_rounds::acknowledged::{Acknowledged, least_length, raised};
-use curp_rounds::messages;
-use std::alloc::Global;
+use curp_rounds::{Acknowledged, Heard, messages};
 
 impl Master {
     #[tactic(auto, unfolding(curp_model::specs::Master::on_appended))]
@@ -36,53 +34,62 @@ impl Master {
         if !self.phase.stores_on(&self.backups, from) {
             return Ok(Done::quiet(self.alloc));
         }
-        let acknowledged = raised(self.alloc, &self.acknowledged, from, long, round)?;
+        let more = Acknowledged::new(*from, long, round);
         if self.phase.is_open() {
-            self.settle(acknowledged)
+            self.settle(&more)
         } else {
-            self.prepare_by(acknowledged)
+            self.prepare_by(&more)
         }
     }
 
-    // Backups have so much, and the manager is told once where the next list has the whole log.
-    fn prepare_by(&mut self, acknowledged: Vec<Acknowledged>) -> Result<Done, NoMemory>
+    // A backup has so much more, and the manager is told once where the next list has the whole log.
+    fn prepare_by(&mut self, more: &Acknowledged) -> Result<Done, NoMemory>
         ensures moves { Moves self.old self.new result (move_of self.old
-            (prepares_in self.old.number (acknowledging self.old.state acknowledged.items) self.old.state.phase)) }
+            (prepares_in self.old.number (acknowledging self.old.state more.now) self.old.state.phase)) }
     {
         let long = self.master_log.log().len();
-        match self.phase.ready_version(long, &acknowledged) {
+        let ready = self
+            .phase
+            .ready_version(long, &Heard::raised(&self.acknowledged, more));
+        match ready {
             None => {
-                self.acknowledge(acknowledged);
+                self.acknowledge(more)?;
                 Ok(Done::quiet(self.alloc))
             }
             Some(version) => {
                 let sent = only(self.alloc, messages::prepared(self.number, version))?;
-                self.acknowledge(acknowledged);
+                self.acknowledge(more)?;
                 self.phase.note_prepared();
                 Ok(Done::sends(sent))
             }
         }
     }
 
-    // Backups have so much, and what all have is answered.
-    fn settle(&mut self, acknowledged: Vec<Acknowledged>) -> Result<Done, NoMemory>
+    // A backup has so much more, and what all have is answered.
+    fn settle(&mut self, more: &Acknowledged) -> Result<Done, NoMemory>
         ensures moves { Moves self.old self.new result (move_of self.old
-            (settle self.old.number (acknowledging self.old.state acknowledged.items))) }
+            (settle self.old.number (acknowledging self.old.state more.now))) }
     {
-        let sent = self.settled(&acknowledged, &self.backups, self.version)?;
-        self.acknowledge(acknowledged);
+        let sent = self.settled(
+            &Heard::raised(&self.acknowledged, more),
+            &self.backups,
+            self.version,
+        )?;
+        self.acknowledge(more)?;
         self.release();
         Ok(Done::sends(sent))
     }
 
-    // Backups have so much.
-    fn acknowledge(&mut self, acknowledged: Vec<Acknowledged>)
+    // A backup has so much more.
+    fn acknowledge(&mut self, more: &Acknowledged) -> Result<(), NoMemory>
         ensures number { self.new.number ≡ self.old.number }
-        ensures state { self.new.state ≡ acknowledging self.old.state acknowledged.items }
+        ensures state { OnOk result (self.new.state ≡ acknowledging self.old.state more.now) }
+        ensures err { OnErr result (self.new ≡ self.old) }
     {
-        self.master_log
-            .settle(least_length(&acknowledged, &self.backups));
-        self.acknowledged = acknowledged;
+        self.acknowledged.raise(more)?;
+        let synced = Heard::so_far(&self.acknowledged).least_length(&self.backups);
+        self.master_log.settle(synced);
+        Ok(())
     }
 
     /// What all backups have is answered, and waits no longer.
@@ -93,28 +100,28 @@ impl Master {
         let synced = self.master_log.synced();
         self.held.remove_below(synced);
         self.captures
-            .remove_ready(&self.acknowledged, &self.backups);
+            .remove_ready(&Heard::so_far(&self.acknowledged), &self.backups);
         self.settled = synced;
     }
 
     /// What is said to settle, where these are the backups of the list, which have so much, and of that version.
     pub(crate) fn settled(
         &self,
-        acknowledged: &[Acknowledged],
+        heard: &Heard<'_>,
         backups: &[NodeId],
         version: u32,
     ) -> Result<Vec<Message>, NoMemory>
         ensures { IfOk result (λ sent. sent.items ≡ (settle self.now.number
-            (listing self.now.state acknowledged.now backups.now version)).messages) }
+            (listing self.now.state heard.now backups.now version)).messages) }
     {
-        let synced = least_length(acknowledged, backups);
+        let synced = heard.least_length(backups);
         let mut sent = self.synced_replies(version, self.held.below(synced))?;
         self.captures.tell_ready(
             &mut sent,
             self.alloc,
             self.number,
             self.epoch,
-            acknowledged,
+            heard,
             backups,
         )?;
         let moved = self.master_log.log().between(self.settled, synced)?;

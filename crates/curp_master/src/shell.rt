@@ -1,5 +1,5 @@
 use curp_cmd::NodeId;
-use curp_rounds::acknowledged::Acknowledged;
+use curp_rounds::Acknowledgements;
 use std::alloc::Global;
 use std::marker::Model;
 
@@ -13,7 +13,7 @@ pub struct Shell {
     pub(crate) version: u32,
     pub(crate) backups: Vec<NodeId>,
     pub(crate) witnesses: Vec<NodeId>,
-    pub(crate) acknowledged: Vec<Acknowledged>,
+    pub(crate) acknowledged: Acknowledgements,
 }
 
 impl Model for Shell {
@@ -32,5 +32,5 @@ impl Model for Shell {
       witnesses = s.witnesses.items;
     } };
 
-    ghost invariant = { λ s. s.acknowledged.items ≡ all_at s.backups.items 0 0 };
+    ghost invariant = { λ s. s.acknowledged ≡ all_at s.backups.items 0 0 };
 }

@@ -10,8 +10,7 @@ use crate::Master;
 use curp_base::NoMemory;
 use curp_master_log::in_prefix;
 use curp_msg::{Done, Message, Prepare};
-use curp_rounds::acknowledged::least_length;
-use curp_rounds::{MasterPhase, Switch, messages};
+use curp_rounds::{Heard, MasterPhase, Switch, messages};
 use std::mem::replace;
 
 impl Master {
@@ -95,9 +94,10 @@ impl Master {
         match &self.phase {
             MasterPhase::Switching(switch) if switch.version == version => {
                 let backups = switch.backups.as_slice();
+                let heard = Heard::so_far(&self.acknowledged);
                 Ok(Some(Settled {
-                    synced: least_length(&self.acknowledged, backups),
-                    sent: self.settled(&self.acknowledged, backups, version)?,
+                    synced: heard.least_length(backups),
+                    sent: self.settled(&heard, backups, version)?,
                 }))
             }
             _ => Ok(None),

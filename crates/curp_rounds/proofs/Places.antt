@@ -1,8 +1,8 @@
 -- Ascending indexes: where one of them stands, and what is put in.
-use Rattle.std.proofs.Common.{◌≡◌, ℕ, zero, suc, ◌-◌, ◌<◌, ◌≤◌, ◌==◌, ◌⊎◌, inl, inr, Bool, true, false, not, nat_lt, List, [], ◌∷◌, ◌++◌, length, get_or, take, drop, Result, Ok, Err, is_ok, IfOk, IfErr, refl, ap, sym, arith}
+use Rattle.std.proofs.Common.{◌≡◌, ℕ, zero, suc, ◌-◌, ◌<◌, ◌≤◌, ◌==◌, ◌⊎◌, inl, inr, Bool, false, nat_lt, List, [], ◌∷◌, ◌++◌, length, get_or, Result, Ok, Err, is_ok, IfOk, IfErr, refl, ap, sym, arith}
 use Rattle.std.specs.BTreeSet.{insert_key}
-use Rattle.std.specs.List.{filter, insert}
-use Rattle.std.specs.List.Sorted.{IsBinarySearchResult, IsNonDecreasing, IsPartitionPoint}
+use Rattle.std.specs.List.{insert}
+use Rattle.std.specs.List.Sorted.{IsBinarySearchResult, IsNonDecreasing}
 use Rattle.std.specs.Cmp.{nat_cmp_is}
 use Rattle.std.specs.Ordering.{nat_cmp}
 use Rattle.std.specs.declared.cmp.Ordering.TheVariants.{Less, Equal, Greater}
@@ -93,33 +93,3 @@ contained xs n (Err at) there none =
 
 abbrev pub is_below : ℕ → ℕ → Bool
 is_below limit n = nat_lt n limit
-
-abbrev pub IsLimit : List ℕ → ℕ → ℕ → Type 0
-IsLimit xs limit at = IsPartitionPoint (λ (n : ℕ). is_below limit n ≡ true) (λ (n : ℕ). is_below limit n ≡ false) xs at
-
-limit_tail : (x : ℕ) (xs : List ℕ) (limit at : ℕ) → IsLimit (x ∷ xs) limit (suc at) → IsLimit xs limit at
-limit_tail x xs limit at point =
-    (λ k d l m. point.0 (suc k) d (omega arith) (omega arith), λ k d l m. point.1 (suc k) d (omega arith) (omega arith))
-
-limit_prefix : (x : ℕ) (xs : List ℕ) (limit : ℕ) → IsLimit (x ∷ xs) limit zero → IsLimit xs limit zero
-limit_prefix x xs limit point = (λ k d l m. absurd (omega arith), λ k d l m. point.1 (suc k) d (omega arith) (omega arith))
-
-pub prefix_below : (xs : List ℕ) (limit at : ℕ) → IsLimit xs limit at → take at xs ≡ filter (is_below limit) xs
-prefix_below [] limit zero point = refl
-prefix_below [] limit (suc at) point = refl
-prefix_below (x ∷ xs) limit zero point =
-    let e : nat_lt x limit ≡ false = point.1 0 x (omega arith) (omega arith) in
-    rw e (prefix_below xs limit zero (limit_prefix x xs limit point))
-prefix_below (x ∷ xs) limit (suc at) point =
-    let e : nat_lt x limit ≡ true = point.0 0 x (omega arith) (omega arith) in
-    rw e (ap (λ ys. x ∷ ys) (prefix_below xs limit at (limit_tail x xs limit at point)))
-
-pub rest_not_below : (xs : List ℕ) (limit at : ℕ) → IsLimit xs limit at → drop at xs ≡ filter (λ n. not (is_below limit n)) xs
-rest_not_below [] limit zero point = refl
-rest_not_below [] limit (suc at) point = refl
-rest_not_below (x ∷ xs) limit zero point =
-    let e : nat_lt x limit ≡ false = point.1 0 x (omega arith) (omega arith) in
-    rw e (ap (λ ys. x ∷ ys) (rest_not_below xs limit zero (limit_prefix x xs limit point)))
-rest_not_below (x ∷ xs) limit (suc at) point =
-    let e : nat_lt x limit ≡ true = point.0 0 x (omega arith) (omega arith) in
-    rw e (rest_not_below xs limit at (limit_tail x xs limit at point))

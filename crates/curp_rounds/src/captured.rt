@@ -3,7 +3,7 @@ ghost use Rattle.curp_cmd.specs.Node.{client_node, master_node};
 ghost use Rattle.curp_msg.specs.Moved.{says};
 ghost use Rattle.curp_rounds.specs.Backups.{is_within};
 
-use crate::acknowledged::Reach;
+use crate::reach::Reach;
 use curp_base::{Boxed, NoMemory, Shared};
 use curp_cmd::{Answer, NodeId, Request, RequestId};
 use curp_msg::{Body, Message, Worth};
@@ -89,6 +89,17 @@ impl Captured {
         ensures { result ≡ self.now.length }
     {
         self.long
+    }
+
+    /// What it waits for.
+    pub(crate) fn reach(&self) -> Reach
+        ensures long { result.long ≡ self.now.length }
+        ensures round { result.round ≡ self.now.round }
+    {
+        Reach {
+            long: self.long,
+            round: self.round,
+        }
     }
 
     /// Whether the length and the round are within what all backups have acknowledged.

@@ -4,7 +4,7 @@ ghost use Rattle.curp_model.specs.Master as master;
 ghost use Rattle.curp_model.specs.Master.{all_have, fresh_backups};
 ghost use Rattle.curp_rounds.specs.Phases.{phase_of, ready_version, told, told_version};
 
-use crate::acknowledged::{Acknowledged, all_have};
+use crate::heard::Heard;
 use curp_base::{Items, NoMemory};
 use curp_cmd::NodeId;
 use std::alloc::Global;
@@ -78,13 +78,11 @@ impl MasterPhase {
     }
 
     /// The version of the next list, if each of its backups has a log of that length and the manager wasn't told so.
-    pub fn ready_version(&self, long: u64, acknowledged: &[Acknowledged]) -> Option<u32>
-        ensures { result ≡ ready_version long acknowledged.now (phase_of self.now) }
+    pub fn ready_version(&self, long: u64, heard: &Heard<'_>) -> Option<u32>
+        ensures { result ≡ ready_version long heard.now (phase_of self.now) }
     {
         match self {
-            MasterPhase::Switching(switch) if switch.is_ready(long, acknowledged) => Some(
-                switch.version,
-            ),
+            MasterPhase::Switching(switch) if switch.is_ready(long, heard) => Some(switch.version),
             _ => None,
         }
     }
@@ -100,11 +98,11 @@ impl MasterPhase {
 }
 
 impl Switch {
-    fn is_ready(&self, long: u64, acknowledged: &[Acknowledged]) -> bool
+    fn is_ready(&self, long: u64, heard: &Heard<'_>) -> bool
         ensures { result
-            ≡ (not self.now.prepared && all_have acknowledged.now self.now.backups long self.now.round) }
+            ≡ (not self.now.prepared && all_have heard.now self.now.backups long self.now.round) }
     {
-        !self.prepared && all_have(acknowledged, self.backups.as_slice(), long, self.round)
+        !self.prepared && heard.all_have(self.backups.as_slice(), long, self.round)
     }
 }
 

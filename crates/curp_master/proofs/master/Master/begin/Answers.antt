@@ -11,7 +11,7 @@ returns-clause-state c =
     let round = c.args.round in
     let kept : c.new.result.kept ≡ kept_log_of c.args.log c.least_length-synced.result [] = c.new.ensures in
     let long : c.len-settled.result ≡ length c.args.log.entries = c.len-settled.ensures.value in
-    let all : c.set_all.new.all.items ≡ all_at c.args.shell.backups (length c.args.log.entries) round =
+    let all : c.set_all.new.self ≡ all_at c.args.shell.backups (length c.args.log.entries) round =
     c.set_all.ensures
     ∙ ap (λ (xs : List Acknowledged). all_set xs c.len-settled.result round) c.shell.invariant
     ∙ set_at c.shell.inside.backups.items c.len-settled.result round

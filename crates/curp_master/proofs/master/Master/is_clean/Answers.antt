@@ -8,6 +8,6 @@ use Rattle.curp_master.proofs.master.Master.is_clean.Goals as goal
 pub returns : goal.returns
 returns c =
     IfOk-weaker c.is_clean.result _ _ (λ clean told. told
-    ∙ (λ i. not (is_touched (drop (c.self.invariant i) c.self.inside.master_log.kept.entries) c.args.command.now))
+    ∙ (λ i. not (is_touched (drop (c.self.invariant.synced i) c.self.inside.master_log.kept.entries) c.args.command.now))
     ∙ ap (λ (node : Node MasterState). is_clean node.state c.args.command.now) c.self.view_is)
     c.is_clean.ensures

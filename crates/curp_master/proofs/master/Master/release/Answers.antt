@@ -8,8 +8,8 @@ use Rattle.curp_master.proofs.master.Master.release.Goals as goal
 pub returns-clause-state : goal.returns-clause-state
 returns-clause-state c =
     let node : Node MasterState = the_view c.self.inside in
-    let captures = rw (c.deref.ensures.value, c.deref-2.ensures.value) at c.remove_ready.ensures.waiting in
-    ap (λ n. record node.state { captures = c.remove_ready.new.self.waiting; captured = n; held = c.remove_below.new.self.numbers; settled = c.synced-synced.result }) c.remove_ready.ensures.count
-    ∙ released node.number node.state c.synced-synced.result c.remove_below.new.self.numbers c.remove_ready.new.self.waiting
-    (c.synced-synced.ensures ∙ c.self.invariant) c.remove_below.ensures captures
+    let captures = rw (c.so_far.ensures, c.deref.ensures.value) at c.remove_ready-2.ensures.waiting in
+    ap (λ n. record node.state { captures = c.remove_ready-2.new.self.waiting; captured = n; held = c.remove_below.new.self.numbers; settled = c.synced-synced.result }) c.remove_ready-2.ensures.count
+    ∙ released node.number node.state c.synced-synced.result c.remove_below.new.self.numbers c.remove_ready-2.new.self.waiting
+    (c.synced-synced.ensures ∙ c.self.invariant.synced) c.remove_below.ensures captures
     ∙ ap (λ (m : Node MasterState). (settle m.number m.state).state) c.self.view_is

@@ -17,7 +17,7 @@ returns c =
     in
     let values =
     c.in_ok-tell_ready.ensures
-    ∙ ap (λ (node : Node MasterState). c.in_ok-sent.sent.items ++ map (value_at node.number node.state.epoch) (filter (λ (x : Captured). all_have c.args.acknowledged.now c.args.backups.now x.length x.round) node.state.captures)) c.self.view_is
+    ∙ ap (λ (node : Node MasterState). c.in_ok-sent.sent.items ++ map (value_at node.number node.state.epoch) (filter (λ (x : Captured). all_have c.args.heard.now c.args.backups.now x.length x.round) node.state.captures)) c.self.view_is
     in
     let entries = c.deref.ensures.value ∙ c.in_ok-moved.ensures ∙ ap (between c.self.inside.settled synced) c.log.ensures.entries in
     let moved =
@@ -25,7 +25,7 @@ returns c =
     ∙ ap (λ (es : List Entry). c.tell_ready.new.sent.items ++ flat_map (moved_entry c.self.inside.number) es) entries
     ∙ ap (λ (node : Node MasterState). c.tell_ready.new.sent.items ++ flat_map (moved_entry node.number) (between node.state.settled synced node.state.log)) c.self.view_is
     in
-    said c.args.self.now.number (listing m c.args.acknowledged.now c.args.backups.now c.args.version) synced
+    said c.args.self.now.number (listing m c.args.heard.now c.args.backups.now c.args.version) synced
     c.in_ok-sent.sent.items c.tell_ready.new.sent.items c.tell_moved.new.sent.items
     c.least_length-synced.ensures
     (c.in_ok-sent.ensures ∙ ap (λ (xs : List ℕ). synced_replies c.args.self.now.number (record m { version = c.args.version }) xs) due)

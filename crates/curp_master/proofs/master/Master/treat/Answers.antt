@@ -1,11 +1,12 @@
-use Rattle.std.proofs.Common.{◌≡◌, ◌≤◌, ◌+◌, List, length, ap, sym, ◌∙◌, subst, arith}
+use Rattle.std.proofs.Common.{◌≡◌, ℕ, ◌≤◌, ◌+◌, List, length, ap, sym, ◌∙◌, subst, arith}
 use Rattle.std.proofs.lemmas.Bool.Decides.{nat_tests}
 use Rattle.curp_cmd.specs.declared.entry.Entry.{Entry}
 use Rattle.curp_model.specs.Master.{MasterState, appends, last_round, treat}
 use Rattle.curp_msg.specs.Moved.{Node}
 use Rattle.curp_master.specs.Rounds.{IsNextRound, IsRound, at_round}
 use Rattle.curp_master_log.specs.Suspects.{news}
-use Rattle.curp_master.proofs.Suspected.{none_pushed, round_begins, round_ends}
+use Rattle.curp_master.proofs.KeptUp.{later}
+use Rattle.curp_master.proofs.Suspected.{kept_in, none_pushed, round_begins, round_ends}
 use Rattle.curp_master.proofs.master.Master.treat.Goals as goal
 
 pub returns-then-is_empty : goal.returns-then-is_empty
@@ -60,3 +61,17 @@ returns c =
         c.sends.ensures ∙ moves.1,
       );
     }
+
+-- a round behind the last begins
+pub invariant_of-self : goal.invariant_of-self
+invariant_of-self c =
+    let rs = c.args.suspects.now in
+    let m : MasterState = c.args.self.now.state in
+    let next : IsRound c.args.self.now c.deref.result.now c.in-Some.round = subst (IsNextRound c.args.self.now c.deref.result.now) c.in-Some.is c.in_ok-round.ensures in
+    let after : c.take_in-2.new.self ≡ record { number = c.args.self.now.number; state = treat m rs } =
+    λ i. record { number = c.in_ok-take_in-2.ensures.number i; state = c.in_ok-take_in-2.ensures.state i }
+    in
+    let at : c.self-2.inside.round ≡ m.round = ap (λ (n : Node MasterState). n.state.round) (c.self-2.view_is ∙ after) ∙ (kept_in m rs).0 in
+    later c.self-2.inside.master_log.kept c.self-2.inside.acknowledged c.self-2.inside.backups.items c.self-2.inside.captures.last c.self-2.inside.round
+    c.in-Some.round.number c.self-2.invariant
+    (next.next ∙ ap (λ (k : ℕ). k + 1) (sym at))

@@ -1,18 +1,20 @@
-use Rattle.std.proofs.Common.{◌≤◌, Bool, true, false, cond, List, [], ◌∷◌, sym, subst}
-use Rattle.std.specs.List.{filter}
-use Rattle.curp_base.specs.Words.{Each}
-use Rattle.curp_model.specs.Master.{Captured}
+use Rattle.std.proofs.Common.{◌∙◌, not, drop, ap, sym, subst, List}
+use Rattle.std.proofs.lemmas.List.Elements.{filter_agree}
+use Rattle.curp_model.specs.Master.{Captured, all_have}
+use Rattle.curp_rounds.specs.Backups.{is_within}
+use Rattle.curp_rounds.specs.Captures.{AreWaiting, Captures}
+use Rattle.curp_rounds.proofs.Waiting.{left}
 use Rattle.curp_rounds.proofs.captures.Captures.remove_ready.Goals as goal
-
-each_filter : {A : Type 0} (P : A → Type 0) (t : A → Bool) (xs : List A) → Each P xs → Each P (filter t xs)
-each_filter P t [] e = tt
-each_filter P t (x ∷ xs) e = go (t x) (each_filter P t xs e.1)
-  where
-    go : (b : Bool) → Each P (filter t xs) → Each P (cond b (x ∷ filter t xs) (filter t xs))
-    go true rest = (e.0, rest)
-    go false rest = rest
 
 pub invariant_of-self : goal.invariant_of-self
 invariant_of-self c =
-    subst (λ (xs : List Captured). Each (λ (x : Captured). x.number ≤ c.self.inside.count) xs) (sym c.remove_ready.ensures)
-    (each_filter (λ (x : Captured). x.number ≤ c.self.inside.count) _ c.self.inside.waiting.items c.self.invariant)
+    subst (λ (cs : List Captured). AreWaiting cs c.self.inside.count c.self.inside.last) (sym c.drop_prefix.ensures)
+    (left c.count_ready-ready.result c.self.inside.waiting.items c.self.inside.count c.self.inside.last c.self.invariant)
+
+pub returns-clause-waiting : goal.returns-clause-waiting
+returns-clause-waiting c =
+    c.drop_prefix.ensures
+    ∙ ap (λ (s : Captures). drop c.count_ready-ready.result s.waiting) c.self.view_is
+    ∙ c.count_ready-ready.ensures.others
+    ∙ filter_agree (λ (x : Captured). not (is_within c.reach_of_all.result x.length x.round)) (λ (x : Captured). not (all_have c.args.heard.now c.args.backups.now x.length x.round))
+    (λ x i. not (sym (c.reach_of_all.ensures x.length x.round) i)) c.args.self.now.waiting

@@ -1,6 +1,7 @@
 use Rattle.std.proofs.Common.{rules, ◌∙◌}
 use Rattle.std.proofs.lemmas.List.Sorted.{IsNonDecreasingBy-drop, IsPartitionPoint-from_clause, IsPartitionedBy-ltb}
-use Rattle.curp_rounds.proofs.Places.{is_below, rest_not_below}
+use Rattle.curp_rounds.proofs.Places.{is_below}
+use Rattle.curp_rounds.proofs.Prefixes.{back_fails}
 use Rattle.curp_rounds.proofs.indexes.Indexes.remove_below.Goals as goal
 
 pub invariant_of-self : goal.invariant_of-self
@@ -16,4 +17,4 @@ returns c =
     in
     rw (← c.self.view_is)
     (c.drop_run.ensures.items
-    ∙ rest_not_below c.self.inside.numbers.items c.args.limit c.partition_point-count.result (rw c.deref.ensures.value at point))
+    ∙ back_fails (is_below c.args.limit) c.self.inside.numbers.items c.partition_point-count.result (rw c.deref.ensures.value at point))

@@ -1,7 +1,0 @@
-use Rattle.std.proofs.Common.{◌≡◌, map, take}
-use Rattle.curp_cmd.specs.declared.node.NodeId.{NodeId}
-use Rattle.curp_rounds.proofs.acknowledged.all_at.Given as goal
-
--- those of the backups so far
-abbrev pub invariant-loop-backup : goal.invariant-loop-backup
-invariant-loop-backup l = l.all.items ≡ map (λ (b : NodeId). record { backup = b; length = l.long; round = l.round }) (take l.backup-index l.backups)

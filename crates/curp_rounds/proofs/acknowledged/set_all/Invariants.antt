@@ -1,7 +1,0 @@
-use Rattle.std.proofs.Common.{◌≡◌, ◌++◌, take, drop}
-use Rattle.curp_rounds.specs.Backups.{all_set}
-use Rattle.curp_rounds.proofs.acknowledged.set_all.Given as goal
-
--- it is set for those so far
-abbrev pub invariant-loop-at : goal.invariant-loop-at
-invariant-loop-at l = l.all.items ≡ all_set (take l.at l.initial.all.items) l.long l.round ++ drop l.at l.initial.all.items
