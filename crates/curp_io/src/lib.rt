@@ -10,6 +10,8 @@
 //!   `next_line` waits for the source.
 //! - `write_piece`, clause `bytes`: the whole piece was put, or a prefix of it after a refusal. `next_line` and
 //!   `write_piece` carry `cause` and `told`.
+//! - `specs/Streaming.antt`: what contracts of functions over any source and sink say of them, `Took`, `Wrote` and
+//!   `TellsFault`.
 //! - `MemorySource`, `MemorySink`: exact, also which calls fail, as a `Schedule` says (`turn`, exact). `SureSource`,
 //!   `SureSink`: they never fail, since their count of faults is always 0. `StdSource` and `StdSink` keep the traits'
 //!   clauses over any reader and writer of std; they tell bytes where these do. `verdict_of`, `put_of`: exact, which of

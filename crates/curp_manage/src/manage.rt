@@ -1,8 +1,9 @@
-ghost use Rattle.std.specs.Prelude.{◌≡◌, ◌≢◌, ◌⊎◌, ◌+◌, ◌≤◌, ◌++◌, [], true, false, ⊤};
-ghost use Rattle.curp_io.specs.Streams.{HoldsPart, Rose, SameCount};
+ghost use Rattle.std.specs.Prelude.{◌≡◌, ◌≢◌, ◌⊎◌, ◌+◌, ◌≤◌, [], true, false, ⊤};
+ghost use Rattle.curp_io.specs.Streaming.{TellsFault, wrote_of};
 ghost use Rattle.curp_manage.specs.Lines.{manage_script_in};
 ghost use Rattle.curp_manage.specs.Text.{HoldsManaged, manage_says, managed, managed_of, texts_of_managed};
 ghost use Rattle.curp_runner.specs.Status.{EndsWhole, is_cut_short, status_of};
+ghost use Rattle.curp_runner.specs.Writing.{PassesOn, WritesText};
 ghost use Rattle.curp_script.specs.Script.{Whole};
 
 use crate::managing::Managing;
@@ -29,24 +30,19 @@ pub fn manage_orders<S: Source, K: Sink>(alloc: Global, source: &mut S, sink: &m
     ensures complete { S.tells source.old ≡ true → (manage_script_in (S.left source.old)).body.ending ≡ Whole
         → EndsWhole result (S.faults source.old) (S.faults source.new) (K.faults sink.old) (K.faults sink.new) }
 
-    // It writes the text of the script and passes it on; where it is cut short, it writes a prefix of the text.
-    ensures wrote { S.tells source.old ≡ true → K.tells sink.old ≡ true → is_cut_short result ≡ false
-        → K.held sink.new ≡ K.held sink.old ++ managed_of (manage_script_in (S.left source.old)) }
-    ensures prefix { S.tells source.old ≡ true → K.tells sink.old ≡ true
-        → HoldsPart (K.held sink.old) (K.held sink.new) (managed_of (manage_script_in (S.left source.old))) }
-    ensures flushed { is_cut_short result ≡ false → K.flushed sink.new ≡ true }
+    // It writes the text of the script, and passes it on.
+    ensures wrote { S.tells source.old ≡ true → WritesText (managed_of (manage_script_in (S.left source.old)))
+        (wrote_of K.tells K.held K.flushed K.faults sink.old sink.new) result }
+    ensures passes_on { PassesOn (wrote_of K.tells K.held K.flushed K.faults sink.old sink.new) result }
     // Where reading fails, it has written what the whole lines say that it was given.
     ensures at_fault { S.tells source.old ≡ true → K.tells sink.old ≡ true → result ≡ Status.ReadFault
         → HoldsManaged (S.left source.old) (S.left source.new) (K.held sink.old) (K.held sink.new) }
-    // Before it waited for more input it had passed on what it wrote; where memory runs out, it does so in the end.
+    // Before it waited for more input it had passed on what it wrote.
     ensures passed_on { result ≡ Status.ReadFault → (K.flushed sink.new ≡ true) ⊎ (sink.new ≡ sink.old) }
-    ensures out_of_memory { result ≡ Status.NoMemory → K.flushed sink.new ≡ true }
 
     // A fault comes exactly where the count of faults rose first.
-    ensures read_fault { result ≡ Status.ReadFault → Rose (S.faults source.old) (S.faults source.new) }
-    ensures no_read_fault { result ≢ Status.ReadFault → SameCount (S.faults source.old) (S.faults source.new) }
-    ensures write_fault { result ≡ Status.WriteFault → Rose (K.faults sink.old) (K.faults sink.new) }
-    ensures no_write_fault { result ≢ Status.WriteFault → SameCount (K.faults sink.old) (K.faults sink.new) }
+    ensures read_fault { TellsFault (result ≡ Status.ReadFault) (S.faults source.old) (S.faults source.new) }
+    ensures write_fault { TellsFault (result ≡ Status.WriteFault) (K.faults sink.old) (K.faults sink.new) }
     ensures never_usage { result ≢ Status.Usage }
 {
     let managed = run::<Managing, S, K>(alloc, source, sink);

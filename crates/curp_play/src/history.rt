@@ -1,6 +1,6 @@
-ghost use Rattle.std.specs.Prelude.{◌≡◌, ◌≢◌, ◌≤◌, ◌+◌, ◌++◌, [], length, true, false, Err, OnOk, IfErr};
+ghost use Rattle.std.specs.Prelude.{◌≡◌, ◌≢◌, ◌≤◌, ◌+◌, [], length, true, false, Err, OnOk};
+ghost use Rattle.curp_io.specs.Streaming.{TellsFault, wrote_of};
 ghost use Rattle.curp_base.specs.Words.{Each};
-ghost use Rattle.curp_io.specs.Streams.{HoldsPart, Rose, SameCount};
 ghost use Rattle.curp_check.specs.Claim.{IsClaimOfOrder};
 ghost use Rattle.curp_law_print.specs.EventRanges.{AskedInRange, EventInRange};
 ghost use Rattle.curp_script.specs.EventTexts.{claim_lines, event_line, history_lines, order_lines};
@@ -9,8 +9,9 @@ ghost use Rattle.curp_script.specs.Script.{Whole};
 ghost use Rattle.curp_model.specs.World as model;
 ghost use Rattle.curp_play.specs.Play.{asked_of, claim_of};
 ghost use Rattle.curp_play.specs.Players.{HasClaim, record_says, recorded};
-ghost use Rattle.curp_runner.specs.Reading.{IsOfWriting, script_in};
+ghost use Rattle.curp_runner.specs.Reading.{script_in};
 ghost use Rattle.curp_runner.specs.Status.{EndsWhole, is_cut_short, status_of};
+ghost use Rattle.curp_runner.specs.Writing.{PassesOn, PutsText, WritesText};
 
 use crate::play::opened;
 use curp_base::NoMemory;
@@ -39,24 +40,18 @@ pub fn play_history<S: Source, K: Sink>(alloc: Global, source: &mut S, sink: &mu
     ensures complete { S.tells source.old ≡ true → (script_in (S.left source.old)).body.ending ≡ Whole
         → EndsWhole result (S.faults source.old) (S.faults source.new) (K.faults sink.old) (K.faults sink.new) }
 
-    // It writes the lines of the history and of the order, and passes them on; where it is cut short, it writes a prefix
-    // of them.
-    ensures wrote { S.tells source.old ≡ true → K.tells sink.old ≡ true → is_cut_short result ≡ false
-        → K.held sink.new ≡ K.held sink.old ++ claim_of (script_in (S.left source.old)) }
-    ensures prefix { S.tells source.old ≡ true → K.tells sink.old ≡ true
-        → HoldsPart (K.held sink.old) (K.held sink.new) (claim_of (script_in (S.left source.old))) }
-    ensures flushed { is_cut_short result ≡ false → K.flushed sink.new ≡ true }
-    ensures out_of_memory { result ≡ Status.NoMemory → K.flushed sink.new ≡ true }
+    // It writes the lines of the history and of the order, and passes them on.
+    ensures wrote { S.tells source.old ≡ true → WritesText (claim_of (script_in (S.left source.old)))
+        (wrote_of K.tells K.held K.flushed K.faults sink.old sink.new) result }
+    ensures passes_on { PassesOn (wrote_of K.tells K.held K.flushed K.faults sink.old sink.new) result }
 
     // These lines are read back as a history and an order of it, so `check` says yes.
     ensures claim { S.tells source.old ≡ true → result ≡ Status.Ok
         → IsClaimOfOrder (claim_of (script_in (S.left source.old))) }
 
     // A fault comes exactly where the count of faults rose first.
-    ensures read_fault { result ≡ Status.ReadFault → Rose (S.faults source.old) (S.faults source.new) }
-    ensures no_read_fault { result ≢ Status.ReadFault → SameCount (S.faults source.old) (S.faults source.new) }
-    ensures write_fault { result ≡ Status.WriteFault → Rose (K.faults sink.old) (K.faults sink.new) }
-    ensures no_write_fault { result ≢ Status.WriteFault → SameCount (K.faults sink.old) (K.faults sink.new) }
+    ensures read_fault { TellsFault (result ≡ Status.ReadFault) (S.faults source.old) (S.faults source.new) }
+    ensures write_fault { TellsFault (result ≡ Status.WriteFault) (K.faults sink.old) (K.faults sink.new) }
     ensures never_usage { result ≢ Status.Usage }
 {
     let played = run::<Recorder, S, K>(alloc, source, sink);
@@ -134,15 +129,9 @@ fn make_step(world: &mut World, step: &Step) -> Result<(), NoMemory>
 /// Writes what clients saw in the world, and its order, as lines.
 fn write_claim<K: Sink>(alloc: Global, world: &World, sink: &mut K) -> Result<(), Status>
     requires { length world.now.history ≤ step_limit }
-    ensures wrote { K.tells sink.old ≡ true → OnOk result
-        (K.held sink.new ≡ K.held sink.old ++ claim_lines world.now.history (model.order world.now)) }
-    ensures prefix { K.tells sink.old ≡ true → HoldsPart (K.held sink.old) (K.held sink.new)
-        (claim_lines world.now.history (model.order world.now)) }
+    ensures puts { PutsText (claim_lines world.now.history (model.order world.now))
+        (wrote_of K.tells K.held K.flushed K.faults sink.old sink.new) result }
     ensures claim { OnOk result (IsClaimOfOrder (claim_lines world.now.history (model.order world.now))) }
-    ensures writing { IfErr result IsOfWriting }
-    ensures tells { K.tells sink.old ≡ true → K.tells sink.new ≡ true }
-    ensures fault { result ≡ Err Status.WriteFault → Rose (K.faults sink.old) (K.faults sink.new) }
-    ensures no_fault { result ≢ Err Status.WriteFault → SameCount (K.faults sink.old) (K.faults sink.new) }
 {
     printed_claims_are_read();
     orders_are_short();
@@ -153,15 +142,9 @@ fn write_claim<K: Sink>(alloc: Global, world: &World, sink: &mut K) -> Result<()
 
 /// Writes the lines of events.
 fn write_events<K: Sink>(alloc: Global, events: &[KeptEvent], sink: &mut K) -> Result<(), Status>
-    ensures wrote { K.tells sink.old ≡ true
-        → OnOk result (K.held sink.new ≡ K.held sink.old ++ history_lines events.now) }
-    ensures prefix { K.tells sink.old ≡ true
-        → HoldsPart (K.held sink.old) (K.held sink.new) (history_lines events.now) }
+    ensures puts { PutsText (history_lines events.now)
+        (wrote_of K.tells K.held K.flushed K.faults sink.old sink.new) result }
     ensures in_range { OnOk result (Each EventInRange events.now) }
-    ensures writing { IfErr result IsOfWriting }
-    ensures tells { K.tells sink.old ≡ true → K.tells sink.new ≡ true }
-    ensures fault { result ≡ Err Status.WriteFault → Rose (K.faults sink.old) (K.faults sink.new) }
-    ensures no_fault { result ≢ Err Status.WriteFault → SameCount (K.faults sink.old) (K.faults sink.new) }
 {
     for kept in events {
         let event = kept.event();
@@ -177,15 +160,9 @@ fn write_order<K: Sink>(
     order: &[(RequestId, KeptCommand, Answer)],
     sink: &mut K,
 ) -> Result<(), Status>
-    ensures wrote { K.tells sink.old ≡ true
-        → OnOk result (K.held sink.new ≡ K.held sink.old ++ order_lines (asked_of order.now)) }
-    ensures prefix { K.tells sink.old ≡ true
-        → HoldsPart (K.held sink.old) (K.held sink.new) (order_lines (asked_of order.now)) }
+    ensures puts { PutsText (order_lines (asked_of order.now))
+        (wrote_of K.tells K.held K.flushed K.faults sink.old sink.new) result }
     ensures in_range { OnOk result (Each AskedInRange (asked_of order.now)) }
-    ensures writing { IfErr result IsOfWriting }
-    ensures tells { K.tells sink.old ≡ true → K.tells sink.new ≡ true }
-    ensures fault { result ≡ Err Status.WriteFault → Rose (K.faults sink.old) (K.faults sink.new) }
-    ensures no_fault { result ≢ Err Status.WriteFault → SameCount (K.faults sink.old) (K.faults sink.new) }
 {
     for (id, command, _) in order {
         asked_is_in_range(id, command);
@@ -200,12 +177,7 @@ fn write_order<K: Sink>(
 
 /// Writes a line, with a line feed.
 fn write_line<K: Sink>(alloc: Global, line: &EventLine, sink: &mut K) -> Result<(), Status>
-    ensures wrote { K.tells sink.old ≡ true → OnOk result (K.held sink.new ≡ K.held sink.old ++ event_line line.now) }
-    ensures prefix { K.tells sink.old ≡ true → HoldsPart (K.held sink.old) (K.held sink.new) (event_line line.now) }
-    ensures writing { IfErr result IsOfWriting }
-    ensures tells { K.tells sink.old ≡ true → K.tells sink.new ≡ true }
-    ensures fault { result ≡ Err Status.WriteFault → Rose (K.faults sink.old) (K.faults sink.new) }
-    ensures no_fault { result ≢ Err Status.WriteFault → SameCount (K.faults sink.old) (K.faults sink.new) }
+    ensures { PutsText (event_line line.now) (wrote_of K.tells K.held K.flushed K.faults sink.old sink.new) result }
 {
     let mut text = print_event(alloc, line)?;
     text.extend_from_slice(b"\n")?;

@@ -1,9 +1,10 @@
 -- What stands of a task where there was no memory to read the words: nothing was read or written.
 use Rattle.std.proofs.Common.{◌≡◌, inl, inr, ℕ, List, [], Option, Some, None, refl, sym, subst, append-nil}
+use Rattle.curp_io.specs.Streaming.{Took, Wrote}
 use Rattle.curp_io.specs.Streams.{HoldsPart}
 use Rattle.curp_script.specs.Script.{Ending}
 use Rattle.curp_runner.specs.declared.status.Status.TheVariants as status
-use Rattle.curp_run.specs.Does.{DoesAsked, DoesScript, TookBytes, WroteBytes}
+use Rattle.curp_run.specs.Does.{DoesAsked, DoesScript}
 use Rattle.curp_words.specs.declared.task.Report.TheVariants.{Steps, History}
 use Rattle.curp_words.specs.declared.task.Task.{Task}
 use Rattle.curp_words.specs.declared.task.Task.TheVariants.{Play, Make, Live, Check, Manage, Resp}
@@ -14,16 +15,15 @@ nothing_held before after text same =
     subst (λ (x : List ℕ). HoldsPart before x text) (sym same) (record { part = []; prefix = record { rest = text; is = refl }; added = sym (append-nil before) })
 
 -- a script of which nothing was done
-nothing_of : (ending : Ending) (whole : List ℕ) (took : TookBytes) (wrote : WroteBytes) → wrote.after ≡ wrote.before → DoesScript ending whole took wrote status.NoMemory
+nothing_of : (ending : Ending) (whole : List ℕ) (took : Took) (wrote : Wrote) → wrote.after ≡ wrote.before → DoesScript ending whole took wrote status.NoMemory
 nothing_of ending whole took wrote same = record {
   ends = λ t c. absurd cc;
   end = λ t c. absurd cc;
   complete = λ t w r f. inr refl;
-  text = λ t k c. absurd cc;
-  prefix = λ t k. nothing_held _ _ _ same;
+  text = λ t. record { whole = λ k c. absurd cc; prefix = λ k. nothing_held _ _ _ same };
 }
 
-pub nothing_done : (asked : Option Task) (took : TookBytes) (wrote : WroteBytes) → wrote.after ≡ wrote.before → DoesAsked asked took wrote status.NoMemory
+pub nothing_done : (asked : Option Task) (took : Took) (wrote : Wrote) → wrote.after ≡ wrote.before → DoesAsked asked took wrote status.NoMemory
 nothing_done None took wrote same = inr refl
 nothing_done (Some (Play Steps)) took wrote same = record {
   does = nothing_of _ _ took wrote same;
@@ -64,8 +64,7 @@ nothing_done (Some Manage) took wrote same = record {
 }
 nothing_done (Some (Resp plan)) took wrote same = record {
   ends = λ requests rest t d c. absurd cc;
-  text = λ requests rest t k d c. absurd cc;
-  prefix = λ requests rest t k d. nothing_held _ _ _ same;
+  text = λ requests rest t d. record { whole = λ k c. absurd cc; prefix = λ k. nothing_held _ _ _ same };
   at_fault = λ t k c. absurd cc;
   passed_on = λ c. absurd cc;
   plays = λ requests rest t d c o. absurd cc;

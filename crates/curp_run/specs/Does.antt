@@ -1,7 +1,8 @@
 -- What a run of the program did, word by word: what it took of its source, what it wrote to its sink, and how it ended.
-use Rattle.std.specs.Prelude.{◌≡◌, ◌≢◌, ◌⊎◌, ◌↔◌, ℕ, ◌-◌, ◌++◌, Bool, true, false, List, [], length, map, Option, Some, None}
+use Rattle.std.specs.Prelude.{◌≡◌, ◌≢◌, ◌⊎◌, ◌↔◌, ℕ, ◌-◌, ◌++◌, true, false, List, [], length, map, Option, Some, None}
 use Rattle.curp_base.specs.Words.{IsPrefix}
-use Rattle.curp_io.specs.Streams.{HoldsPart, Rose, SameCount}
+use Rattle.curp_io.specs.Streaming.{TellsFault, Took, Wrote}
+use Rattle.curp_io.specs.Streams.{HoldsPart}
 use Rattle.curp_gen.specs.Texts.{made_script, made_text}
 use Rattle.curp_check.specs.Claim.{IsClaimOfOrder, claim_in}
 use Rattle.curp_check.specs.declared.verdict.Clause.{Clause}
@@ -14,6 +15,7 @@ use Rattle.curp_runner.specs.Reading.{script_in}
 use Rattle.curp_runner.specs.Status.{EndsWhole, code_of, is_cut_short, status_of}
 use Rattle.curp_runner.specs.declared.status.Status.{Status}
 use Rattle.curp_runner.specs.declared.status.Status.TheVariants as status
+use Rattle.curp_runner.specs.Writing.{WritesText}
 use Rattle.curp_runner.specs.Check.{EndsAs, EndsJudged, IsBrokenClaim, IsJudgedPrefix, is_verdict, verdict_text}
 use Rattle.curp_resp.specs.Input.{Decomposes}
 use Rattle.curp_resp.specs.Meaning.{meaning}
@@ -31,66 +33,27 @@ use Rattle.curp_words.specs.declared.task.RespPlan.{RespPlan}
 use Rattle.curp_words.specs.declared.task.Task.{Task}
 use Rattle.curp_words.specs.declared.task.Task.TheVariants.{Play, Make, Live, Check, Manage, Resp}
 
--- ---- what a run took and wrote
-
--- what a source tells of a run: whether it tells its bytes, which were left before the run and behind it, and its counts
--- of faults
-pub record TookBytes : Type 0 where
-  pub tells : Bool
-  pub before : List ℕ
-  pub after : List ℕ
-  pub faults_before : ℕ
-  pub faults_after : ℕ
-
--- the same of any source, by what its kind tells, and by what it was before and behind the run
-abbrev pub took_of : {A : Type 0} → (A → Bool) → (A → List ℕ) → (A → ℕ) → (old new : A) → TookBytes
-took_of tells left faults old new = record {
-  tells = tells old;
-  before = left old;
-  after = left new;
-  faults_before = faults old;
-  faults_after = faults new;
-}
-
--- what a sink tells of a run: whether it tells its bytes, what it held before the run and holds behind it, whether all of
--- that was passed on, and its counts of faults
-pub record WroteBytes : Type 0 where
-  pub tells : Bool
-  pub before : List ℕ
-  pub after : List ℕ
-  pub flushed : Bool
-  pub faults_before : ℕ
-  pub faults_after : ℕ
-
-abbrev pub wrote_of : {A : Type 0} → (A → Bool) → (A → List ℕ) → (A → Bool) → (A → ℕ) → (old new : A) → WroteBytes
-wrote_of tells held flushed faults old new = record {
-  tells = tells old;
-  before = held old;
-  after = held new;
-  flushed = flushed new;
-  faults_before = faults old;
-  faults_after = faults new;
-}
-
--- what it wrote is passed on, or it wrote nothing
-abbrev pub IsPassedOn : WroteBytes → Type 0
-IsPassedOn wrote = (wrote.flushed ≡ true) ⊎ (wrote.after ≡ wrote.before)
-
 -- ---- what each word does
 
+-- what it wrote is passed on, or it wrote nothing
+abbrev pub IsPassedOn : Wrote → Type 0
+IsPassedOn wrote = (wrote.flushed ≡ true) ⊎ (wrote.after ≡ wrote.before)
+
 -- a script is read line by line, and done: it ends so, and that is its whole text
-pub record DoesScript (ending : Ending) (whole : List ℕ) (took : TookBytes) (wrote : WroteBytes) (s : Status) : Type 0 where
+pub record DoesScript (ending : Ending) (whole : List ℕ) (took : Took) (wrote : Wrote) (s : Status) : Type 0 where
   -- it ends as the script does, unless a fault or running out of memory cuts it short
   pub ends : took.tells ≡ true → is_cut_short s ≡ false → s ≡ status_of ending
+  -- at status 0 nothing is left of it
   pub end : took.tells ≡ true → s ≡ status.Ok → took.after ≡ []
+  -- where there is memory and no fault, a script within the grammar and its limits is done to its end
   pub complete : took.tells ≡ true → ending ≡ Whole
       → EndsWhole s took.faults_before took.faults_after wrote.faults_before wrote.faults_after
   -- the text of the script; where it is cut short, a prefix of the text
-  pub text : took.tells ≡ true → wrote.tells ≡ true → is_cut_short s ≡ false → wrote.after ≡ wrote.before ++ whole
-  pub prefix : took.tells ≡ true → wrote.tells ≡ true → HoldsPart wrote.before wrote.after whole
+  pub text : took.tells ≡ true → WritesText whole wrote s
 
 -- `play`: the text of the script
-pub record PlaysScript (took : TookBytes) (wrote : WroteBytes) (s : Status) : Type 0 where
+pub record PlaysScript (took : Took) (wrote : Wrote) (s : Status) : Type 0 where
+  -- it plays the script
   pub does : DoesScript (script_in took.before).body.ending (text_of (script_in took.before)) took wrote s
   -- where reading failed, the text of the whole lines that were taken
   pub at_fault : took.tells ≡ true → wrote.tells ≡ true → s ≡ status.ReadFault
@@ -101,14 +64,19 @@ pub record PlaysScript (took : TookBytes) (wrote : WroteBytes) (s : Status) : Ty
   pub order : took.tells ≡ true → s ≡ status.Ok → HasAnOrder (script_in took.before)
 
 -- `play --history`: the lines of what clients saw and of the order, which `check` reads back and says yes to
-pub record TellsHistory (took : TookBytes) (wrote : WroteBytes) (s : Status) : Type 0 where
+pub record TellsHistory (took : Took) (wrote : Wrote) (s : Status) : Type 0 where
+  -- it plays the script, and writes these lines
   pub does : DoesScript (script_in took.before).body.ending (claim_of (script_in took.before)) took wrote s
+  -- they are read back as a history and an order of it
   pub order : took.tells ≡ true → s ≡ status.Ok → IsClaimOfOrder (claim_of (script_in took.before))
 
 -- `make`: what the plan gives, or a prefix of it
-pub record MakesScript (plan : MakePlan) (form : Output) (wrote : WroteBytes) (s : Status) : Type 0 where
+pub record MakesScript (plan : MakePlan) (form : Output) (wrote : Wrote) (s : Status) : Type 0 where
+  -- a write fault and running out of memory are the only failures
   pub of_making : IsOfMaking s
+  -- without a fault it ends with status 0, or out of memory
   pub complete : EndsMade s wrote.faults_before wrote.faults_after
+  -- the text of the plan; where it is cut short, a prefix of the text
   pub text : wrote.tells ≡ true → s ≡ status.Ok → wrote.after ≡ wrote.before ++ made_text plan form
   pub prefix : wrote.tells ≡ true → HoldsPart wrote.before wrote.after (made_text plan form)
   -- a made script is read whole, as the plan's
@@ -116,43 +84,51 @@ pub record MakesScript (plan : MakePlan) (form : Output) (wrote : WroteBytes) (s
 
 -- `live`: a script, an empty line, and what `play` writes for that script. In the script each client invokes its workload in
 -- order, and each of these requests completes
-pub record RunsLive (plan : LivePlan) (wrote : WroteBytes) (s : Status) : Type 0 where
+pub record RunsLive (plan : LivePlan) (wrote : Wrote) (s : Status) : Type 0 where
+  -- a write fault and running out of memory are the only failures
   pub of_making : IsOfMaking s
+  -- without a fault it ends with status 0, or out of memory
   pub complete : EndsMade s wrote.faults_before wrote.faults_after
+  -- a script that shows the work, and its text; where it is cut short, nothing, or a prefix of that
   pub text : wrote.tells ≡ true → s ≡ status.Ok → IsLive plan wrote.before wrote.after
   pub prefix : wrote.tells ≡ true → IsLivePrefix plan wrote.before wrote.after
 
 -- `check`: the verdict on the claim, read to its end, or on the first line that is refused, is too long or is one too many
-pub record JudgesClaim (took : TookBytes) (wrote : WroteBytes) (s : Status) : Type 0 where
+pub record JudgesClaim (took : Took) (wrote : Wrote) (s : Status) : Type 0 where
+  -- it ends so, unless a fault or running out of memory cuts it short
   pub ends : took.tells ≡ true → is_cut_short s ≡ false → EndsAs took.before s
   -- yes exactly where the order is one of the history, and else the first clause that fails
   pub yes : took.tells ≡ true → is_cut_short s ≡ false → (s ≡ status.Ok) ↔ IsClaimOfOrder took.before
   pub no : (clause : Clause) → took.tells ≡ true → is_cut_short s ≡ false
       → (s ≡ status.No clause) ↔ IsBrokenClaim took.before clause
+  -- where there is a verdict, nothing is left
   pub end : took.tells ≡ true → is_verdict s ≡ true → took.after ≡ []
+  -- where there is memory and no fault, a claim that is read to its end has a verdict
   pub complete : took.tells ≡ true → (claim_in took.before).ending ≡ Whole
       → EndsJudged s took.faults_before took.faults_after wrote.faults_before wrote.faults_after
+  -- the verdict alone; where it is cut short, nothing, or a prefix of the claim's verdict
   pub text : wrote.tells ≡ true → is_cut_short s ≡ false → wrote.after ≡ wrote.before ++ verdict_text s
   pub prefix : took.tells ≡ true → wrote.tells ≡ true → IsJudgedPrefix took.before wrote.before wrote.after
 
 -- `manage`: what the manager's definition says over the inputs that are kept
-pub record ManagesOrders (took : TookBytes) (wrote : WroteBytes) (s : Status) : Type 0 where
+pub record ManagesOrders (took : Took) (wrote : Wrote) (s : Status) : Type 0 where
+  -- it does the script
   pub does : DoesScript (manage_script_in took.before).body.ending (managed_of (manage_script_in took.before)) took wrote s
+  -- where reading failed, the texts of the whole lines that were taken
   pub at_fault : took.tells ≡ true → wrote.tells ≡ true → s ≡ status.ReadFault
       → HoldsManaged took.before took.after wrote.before wrote.after
+  -- before it waited for more input it had passed on what it wrote
   pub passed_on : s ≡ status.ReadFault → IsPassedOn wrote
 
 -- `resp`: the replies to the requests, or the script of the steps that serve them
-pub record AnswersRequests (plan : RespPlan) (took : TookBytes) (wrote : WroteBytes) (s : Status) : Type 0 where
+pub record AnswersRequests (plan : RespPlan) (took : Took) (wrote : Wrote) (s : Status) : Type 0 where
   -- it ends by the first limit that is met, or as the input does
   pub ends : (requests : List (List (List ℕ))) (rest : List ℕ) → took.tells ≡ true → Decomposes requests took.before rest
       → is_cut_short s ≡ false
       → EndsSession (session plan requests).served.stopped (length took.before - length rest) rest s
-  pub text : (requests : List (List (List ℕ))) (rest : List ℕ) → took.tells ≡ true → wrote.tells ≡ true
-      → Decomposes requests took.before rest → is_cut_short s ≡ false
-      → wrote.after ≡ wrote.before ++ session_text plan requests rest
-  pub prefix : (requests : List (List (List ℕ))) (rest : List ℕ) → took.tells ≡ true → wrote.tells ≡ true
-      → Decomposes requests took.before rest → HoldsPart wrote.before wrote.after (session_text plan requests rest)
+  -- the text of the session; where it is cut short, a prefix of the text
+  pub text : (requests : List (List (List ℕ))) (rest : List ℕ) → took.tells ≡ true → Decomposes requests took.before rest
+      → WritesText (session_text plan requests rest) wrote s
   -- where reading failed, what is due for the whole requests that were taken
   pub at_fault : took.tells ≡ true → wrote.tells ≡ true → s ≡ status.ReadFault
       → HoldsAnswers plan took.before took.after wrote.before wrote.after
@@ -179,7 +155,7 @@ pub record AnswersRequests (plan : RespPlan) (took : TookBytes) (wrote : WroteBy
       ≡ in_turn (answered (commands_in (map meaning requests)))
 
 -- what a task does
-abbrev pub DoesTask : Task → TookBytes → WroteBytes → Status → Type 0
+abbrev pub DoesTask : Task → Took → Wrote → Status → Type 0
 DoesTask (Play Steps) took wrote s = PlaysScript took wrote s
 DoesTask (Play History) took wrote s = TellsHistory took wrote s
 DoesTask (Make plan form) took wrote s = MakesScript plan form wrote s
@@ -189,26 +165,26 @@ DoesTask Manage took wrote s = ManagesOrders took wrote s
 DoesTask (Resp plan) took wrote s = AnswersRequests plan took wrote s
 
 -- words that ask for none are refused, unless there is no memory to read them
-abbrev pub DoesAsked : Option Task → TookBytes → WroteBytes → Status → Type 0
+abbrev pub DoesAsked : Option Task → Took → Wrote → Status → Type 0
 DoesAsked None took wrote s = (s ≡ status.Usage) ⊎ (s ≡ status.NoMemory)
 DoesAsked (Some task) took wrote s = DoesTask task took wrote s
 
 -- ---- a run
 
 -- a run that was asked for that task, or for none
-pub record DoesRun (asked : Option Task) (took : TookBytes) (wrote : WroteBytes) (s : Status) : Type 0 where
+pub record DoesRun (asked : Option Task) (took : Took) (wrote : Wrote) (s : Status) : Type 0 where
+  -- what the record of the word says
   pub did : DoesAsked asked took wrote s
+  -- only words that ask for no task are no command line
   pub usage : s ≡ status.Usage → asked ≡ None
   -- what it wrote is passed on
   pub flushed : asked ≢ None → is_cut_short s ≡ false → wrote.flushed ≡ true
   -- a fault comes exactly where the count of faults rose first
-  pub read_fault : s ≡ status.ReadFault → Rose took.faults_before took.faults_after
-  pub no_read_fault : s ≢ status.ReadFault → SameCount took.faults_before took.faults_after
-  pub write_fault : s ≡ status.WriteFault → Rose wrote.faults_before wrote.faults_after
-  pub no_write_fault : s ≢ status.WriteFault → SameCount wrote.faults_before wrote.faults_after
+  pub read_fault : TellsFault (s ≡ status.ReadFault) took.faults_before took.faults_after
+  pub write_fault : TellsFault (s ≡ status.WriteFault) wrote.faults_before wrote.faults_after
 
 -- such a run ended with a status of this number
-pub record EndsWith (number : ℕ) (asked : Option Task) (took : TookBytes) (wrote : WroteBytes) : Type 0 where
+pub record EndsWith (number : ℕ) (asked : Option Task) (took : Took) (wrote : Wrote) : Type 0 where
   pub status : Status
   pub ran : DoesRun asked took wrote status
   pub is : number ≡ code_of status

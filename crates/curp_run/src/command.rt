@@ -1,5 +1,6 @@
 ghost use Rattle.std.specs.Prelude.{◌≡◌, None, Some};
-ghost use Rattle.curp_run.specs.Does.{DoesRun, took_of, wrote_of};
+ghost use Rattle.curp_io.specs.Streaming.{took_of, wrote_of};
+ghost use Rattle.curp_run.specs.Does.{DoesRun};
 ghost use Rattle.curp_run.specs.Run.{asked};
 ghost use Rattle.curp_words.specs.declared.task.LivePlan.{LivePlan};
 ghost use Rattle.curp_words.specs.declared.task.MakePlan.{MakePlan};

@@ -1,5 +1,5 @@
-ghost use Rattle.std.specs.Prelude.{◌≡◌, ◌≢◌, true, IfOk};
-ghost use Rattle.curp_io.specs.Streams.{Rose, SameCount};
+ghost use Rattle.std.specs.Prelude.{◌≡◌, true, IfOk};
+ghost use Rattle.curp_io.specs.Streaming.{TellsFault};
 ghost use Rattle.curp_run.specs.Live.{IsLive, IsLivePrefix, IsLiveText};
 ghost use Rattle.curp_show.specs.Show.{EndsMade, IsOfMaking};
 ghost use Rattle.curp_words.specs.Plan.{IsLivePlan};
@@ -39,8 +39,7 @@ pub fn live_script<R: Threads + Wait + Sync, G: Observer + Sync, K: Sink>(
     // A write fault comes exactly where the count of faults rose; running out of memory is the one other failure.
     ensures of_making { IsOfMaking result }
     ensures complete { EndsMade result (K.faults sink.old) (K.faults sink.new) }
-    ensures write_fault { result ≡ Status.WriteFault → Rose (K.faults sink.old) (K.faults sink.new) }
-    ensures no_write_fault { result ≢ Status.WriteFault → SameCount (K.faults sink.old) (K.faults sink.new) }
+    ensures write_fault { TellsFault (result ≡ Status.WriteFault) (K.faults sink.old) (K.faults sink.new) }
 {
     match live_text(rt, alloc, plan, observer) {
         Ok(text) => write_played(alloc, &text, sink),

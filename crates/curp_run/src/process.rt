@@ -1,9 +1,9 @@
-ghost use Rattle.std.specs.Prelude.{◌≡◌, ◌≢◌, ◌⊎◌, Some, None};
+ghost use Rattle.std.specs.Prelude.{◌≡◌, ◌⊎◌, Some, None};
+ghost use Rattle.curp_io.specs.Streaming.{TellsFault, took_of, wrote_of};
 ghost use Rattle.std.specs.Process.{exit_status};
 ghost use Rattle.std.specs.IoError.{error_kind};
-ghost use Rattle.curp_io.specs.Streams.{Rose, SameCount};
 ghost use Rattle.curp_runner.specs.Status.{TellsStatus, code_of};
-ghost use Rattle.curp_run.specs.Does.{EndsWith, took_of, wrote_of};
+ghost use Rattle.curp_run.specs.Does.{EndsWith};
 ghost use Rattle.curp_run.specs.Run.{asked, unread_words};
 ghost use Rattle.curp_run.specs.declared.complaints.Blame.TheVariants.{Unknown};
 ghost use Rattle.curp_words.specs.declared.task.LivePlan.{LivePlan};
@@ -89,10 +89,8 @@ pub fn run_to_end<R: Threads + Wait + Sync, G: Observer + Sync, S: Source, K: Si
     ensures usage { exit_status result ≡ 2 → asked arguments.now ≡ None }
     ensures no_task { asked arguments.now ≡ None → (exit_status result ≡ 2) ⊎ (exit_status result ≡ 6) }
     // With 4 exactly where reading failed, and with 5 exactly where writing failed.
-    ensures read_fault { exit_status result ≡ 4 → Rose (S.faults source.old) (S.faults source.new) }
-    ensures no_read_fault { exit_status result ≢ 4 → SameCount (S.faults source.old) (S.faults source.new) }
-    ensures write_fault { exit_status result ≡ 5 → Rose (K.faults sink.old) (K.faults sink.new) }
-    ensures no_write_fault { exit_status result ≢ 5 → SameCount (K.faults sink.old) (K.faults sink.new) }
+    ensures read_fault { TellsFault (exit_status result ≡ 4) (S.faults source.old) (S.faults source.new) }
+    ensures write_fault { TellsFault (exit_status result ≡ 5) (K.faults sink.old) (K.faults sink.new) }
 {
     let status = run(rt, alloc, arguments, source, sink, observer);
     let found = complaints_of(alloc, status, arguments);

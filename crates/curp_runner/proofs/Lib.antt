@@ -1,4 +1,4 @@
-mod Endings
+pub mod Endings
 pub mod Scripts
 pub mod SoFar
 pub mod Pieces

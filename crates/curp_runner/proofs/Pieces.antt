@@ -54,6 +54,10 @@ pub is_whole : (text old now due : List ℕ) → SoFar text old now due → due 
 is_whole text old now due s none =
     s.is ∙ ap (λ w. old ++ w) (sym (append-nil s.done) ∙ ap (λ w. s.done ++ w) (sym none) ∙ s.goes_on)
 
+-- what was written so far is a prefix
+pub written_part : (text old now due : List ℕ) → SoFar text old now due → HoldsPart old now text
+written_part text old now due s = record { part = s.done; prefix = record { rest = due; is = s.goes_on }; added = s.is }
+
 -- what is held stays
 pub written_so_far : (text old before now due : List ℕ) → now ≡ before → SoFar text old before due → SoFar text old now due
 written_so_far text old before now due same s = record { done = s.done; is = same ∙ s.is; goes_on = s.goes_on }

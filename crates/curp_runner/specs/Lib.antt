@@ -2,3 +2,4 @@ pub mod Check
 pub mod Reading
 pub mod Run
 pub mod Status
+pub mod Writing

@@ -1,5 +1,6 @@
 ghost use Rattle.std.specs.Prelude.{◌≡◌, ◌≢◌, ◌↔◌, ◌+◌, ◌<◌, ◌≤◌, ◌++◌, [], true, false, Ok, Err, OnOk, IfErr};
-ghost use Rattle.curp_io.specs.Streams.{HoldsPart, Rose, SameCount};
+ghost use Rattle.curp_io.specs.Streaming.{TellsFault};
+ghost use Rattle.curp_io.specs.Streams.{HoldsPart};
 ghost use Rattle.curp_check.specs.Claim.{ClaimText, Claimed, IsClaimOfOrder, claim_in, claim_limit, nothing_claimed, with_read};
 ghost use Rattle.curp_check.specs.declared.verdict.Clause.{Clause};
 ghost use Rattle.curp_script.specs.Events.{event_in};
@@ -38,10 +39,8 @@ pub fn check_claim<S: Source, K: Sink>(alloc: Global, source: &mut S, sink: &mut
     ensures flushed { is_cut_short result ≡ false → K.flushed sink.new ≡ true }
 
     // A fault comes exactly where the count of faults rose first.
-    ensures read_fault { result ≡ Status.ReadFault → Rose (S.faults source.old) (S.faults source.new) }
-    ensures no_read_fault { result ≢ Status.ReadFault → SameCount (S.faults source.old) (S.faults source.new) }
-    ensures write_fault { result ≡ Status.WriteFault → Rose (K.faults sink.old) (K.faults sink.new) }
-    ensures no_write_fault { result ≢ Status.WriteFault → SameCount (K.faults sink.old) (K.faults sink.new) }
+    ensures read_fault { TellsFault (result ≡ Status.ReadFault) (S.faults source.old) (S.faults source.new) }
+    ensures write_fault { TellsFault (result ≡ Status.WriteFault) (K.faults sink.old) (K.faults sink.new) }
     ensures never_usage { result ≢ Status.Usage }
 {
     let judged = judge(alloc, source, sink);
@@ -58,10 +57,8 @@ fn judge<S: Source, K: Sink>(alloc: Global, source: &mut S, sink: &mut K) -> Res
     ensures prefix { S.tells source.old ≡ true → K.tells sink.old ≡ true
         → IsJudgedPrefix (S.left source.old) (K.held sink.old) (K.held sink.new) }
     ensures tells { K.tells sink.old ≡ true → K.tells sink.new ≡ true }
-    ensures read_fault { result ≡ Err Status.ReadFault → Rose (S.faults source.old) (S.faults source.new) }
-    ensures no_read_fault { result ≢ Err Status.ReadFault → SameCount (S.faults source.old) (S.faults source.new) }
-    ensures write_fault { result ≡ Err Status.WriteFault → Rose (K.faults sink.old) (K.faults sink.new) }
-    ensures no_write_fault { result ≢ Err Status.WriteFault → SameCount (K.faults sink.old) (K.faults sink.new) }
+    ensures read_fault { TellsFault (result ≡ Err Status.ReadFault) (S.faults source.old) (S.faults source.new) }
+    ensures write_fault { TellsFault (result ≡ Err Status.WriteFault) (K.faults sink.old) (K.faults sink.new) }
     ensures never_usage { result ≢ Err Status.Usage }
     ensures never_ok { result ≢ Err Status.Ok }
 {
@@ -86,10 +83,8 @@ fn judge_claim<S: Source, K: Sink>(
     ensures prefix { S.tells source.old ≡ true → K.tells sink.old ≡ true
         → IsJudgedPrefix (S.left source.old) (K.held sink.old) (K.held sink.new) }
     ensures tells { K.tells sink.old ≡ true → K.tells sink.new ≡ true }
-    ensures read_fault { result ≡ Err Status.ReadFault → Rose (S.faults source.old) (S.faults source.new) }
-    ensures no_read_fault { result ≢ Err Status.ReadFault → SameCount (S.faults source.old) (S.faults source.new) }
-    ensures write_fault { result ≡ Err Status.WriteFault → Rose (K.faults sink.old) (K.faults sink.new) }
-    ensures no_write_fault { result ≢ Err Status.WriteFault → SameCount (K.faults sink.old) (K.faults sink.new) }
+    ensures read_fault { TellsFault (result ≡ Err Status.ReadFault) (S.faults source.old) (S.faults source.new) }
+    ensures write_fault { TellsFault (result ≡ Err Status.WriteFault) (K.faults sink.old) (K.faults sink.new) }
     ensures never_usage { result ≢ Err Status.Usage }
     ensures never_ok { result ≢ Err Status.Ok }
 {
@@ -107,8 +102,7 @@ fn write_verdict<K: Sink>(alloc: Global, verdict: Verdict, sink: &mut K) -> Resu
     ensures verdict { is_cut_short (ended result) ≡ false → ended result ≡ status_of_verdict verdict }
     ensures cut { is_cut_short (ended result) ≡ true → IfErr result IsOfWriting }
     ensures tells { K.tells sink.old ≡ true → K.tells sink.new ≡ true }
-    ensures fault { result ≡ Err Status.WriteFault → Rose (K.faults sink.old) (K.faults sink.new) }
-    ensures no_fault { result ≢ Err Status.WriteFault → SameCount (K.faults sink.old) (K.faults sink.new) }
+    ensures write_fault { TellsFault (result ≡ Err Status.WriteFault) (K.faults sink.old) (K.faults sink.new) }
     ensures never_ok { result ≢ Err Status.Ok }
 {
     match verdict {
@@ -129,8 +123,7 @@ fn read_claim<S: Source>(alloc: Global, source: &mut S, claim: &mut Claim) -> Re
     ensures stops { S.tells source.old ≡ true → IfErr result (StopsAt (claim_in (S.left source.old))) }
     ensures end { S.tells source.old ≡ true → OnOk result (S.left source.new ≡ []) }
     ensures reading { IfErr result IsOfReading }
-    ensures read_fault { result ≡ Err Status.ReadFault → Rose (S.faults source.old) (S.faults source.new) }
-    ensures no_read_fault { result ≢ Err Status.ReadFault → SameCount (S.faults source.old) (S.faults source.new) }
+    ensures read_fault { TellsFault (result ≡ Err Status.ReadFault) (S.faults source.old) (S.faults source.new) }
 {
     let mut lines = Lines::new(alloc)?;
     let mut line_reader = LineReader::new(alloc);
@@ -158,8 +151,7 @@ fn read_line<S: Source>(
     ensures counted { result ≡ Ok true → count < claim_limit }
     ensures reading { IfErr result IsOfReading }
     ensures tells { S.tells source.old ≡ true → S.tells source.new ≡ true }
-    ensures cause { result ≡ Err Status.ReadFault → Rose (S.faults source.old) (S.faults source.new) }
-    ensures told { result ≢ Err Status.ReadFault → SameCount (S.faults source.old) (S.faults source.new) }
+    ensures read_fault { TellsFault (result ≡ Err Status.ReadFault) (S.faults source.old) (S.faults source.new) }
 {
     match lines.next_line(source) {
         NextLine::Line => {

@@ -3,6 +3,8 @@
 //! - `Status`: how a run ended. `code` is the exit status; the text of a status, and which line is written to standard
 //!   error (`Complaint`), are exact.
 //! - `write` and `close`: a piece is written, and what was written is passed on, for whatever writes to a sink.
+//!   `specs/Writing.antt` has what each function that writes a text promises: a run `WritesText` and `PassesOn`, and one
+//!   that puts a part of it `PutsText`.
 //! - `run` reads a script whose lines may say anything (`ScriptLine`), and has a `Player` do them one by one. It is exact
 //!   over what the player's rules say of the bytes.
 //!

@@ -1,5 +1,5 @@
 ghost use Rattle.std.specs.Prelude.{◌≡◌, ◌≢◌, ◌+◌, ◌≤◌, ◌++◌, ℕ, [], true, None, Some, List, Ok, Err, Result, OnOk, IfOk, IfErr, IfSome, ⊤};
-ghost use Rattle.curp_io.specs.Streams.{Rose, SameCount};
+ghost use Rattle.curp_io.specs.Streaming.{TellsFault};
 ghost use Rattle.curp_io.specs.Text.{lines_of, nothing_read};
 ghost use Rattle.curp_script.specs.Grammar.{header_in, step_in};
 ghost use Rattle.curp_script.specs.Headers.{bad_field};
@@ -96,8 +96,7 @@ impl<L: ScriptLine> ScriptReader<L> {
         ensures goes_on { OnOk result (IsBehind self.new 1) }
         ensures reading { IfErr result IsOfReading }
         ensures tells { S.tells source.old ≡ true → S.tells source.new ≡ true }
-        ensures cause { result ≡ Err Status.ReadFault → Rose (S.faults source.old) (S.faults source.new) }
-        ensures told { result ≢ Err Status.ReadFault → SameCount (S.faults source.old) (S.faults source.new) }
+        ensures read_fault { TellsFault (result ≡ Err Status.ReadFault) (S.faults source.old) (S.faults source.new) }
     {
         match self.lines.next_line(source) {
             NextLine::Line => header_of_line(&mut self.line_reader, self.lines.text()),
@@ -132,10 +131,8 @@ impl<L: ScriptLine> ScriptReader<L> {
         ensures passed_on { result ≡ Err Status.ReadFault → K.flushed sink.new ≡ true }
         ensures source_tells { S.tells source.old ≡ true → S.tells source.new ≡ true }
         ensures sink_tells { K.tells sink.old ≡ true → K.tells sink.new ≡ true }
-        ensures read_fault { result ≡ Err Status.ReadFault → Rose (S.faults source.old) (S.faults source.new) }
-        ensures no_read_fault { result ≢ Err Status.ReadFault → SameCount (S.faults source.old) (S.faults source.new) }
-        ensures write_fault { result ≡ Err Status.WriteFault → Rose (K.faults sink.old) (K.faults sink.new) }
-        ensures no_write_fault { result ≢ Err Status.WriteFault → SameCount (K.faults sink.old) (K.faults sink.new) }
+        ensures read_fault { TellsFault (result ≡ Err Status.ReadFault) (S.faults source.old) (S.faults source.new) }
+        ensures write_fault { TellsFault (result ≡ Err Status.WriteFault) (K.faults sink.old) (K.faults sink.new) }
         ensures never_usage { result ≢ Err Status.Usage }
         ensures never_ok { result ≢ Err Status.Ok }
     {
@@ -193,8 +190,7 @@ impl<L: ScriptLine> ScriptReader<L> {
         ensures valid { IfOk result (λ read. IfSome read L.IsValid) }
         ensures reading { IfErr result IsOfReading }
         ensures tells { S.tells source.old ≡ true → S.tells source.new ≡ true }
-        ensures cause { result ≡ Err Status.ReadFault → Rose (S.faults source.old) (S.faults source.new) }
-        ensures told { result ≢ Err Status.ReadFault → SameCount (S.faults source.old) (S.faults source.new) }
+        ensures read_fault { TellsFault (result ≡ Err Status.ReadFault) (S.faults source.old) (S.faults source.new) }
     {
         match self.lines.next_line(source) {
             NextLine::Line => {

@@ -1,10 +1,12 @@
-ghost use Rattle.std.specs.Prelude.{◌≡◌, ◌≢◌, ◌⊎◌, ◌+◌, ◌≤◌, ◌++◌, ℕ, [], true, false, List, None, Err, Ok, OnOk, IfOk, IfErr, string_bytes};
-ghost use Rattle.curp_io.specs.Streams.{HoldsPart, Rose, SameCount};
+ghost use Rattle.std.specs.Prelude.{◌≡◌, ◌≢◌, ◌⊎◌, ◌+◌, ◌≤◌, ◌++◌, ℕ, [], true, false, List, None, Err, Ok, OnOk, IfOk, string_bytes};
+ghost use Rattle.curp_io.specs.Streaming.{TellsFault, wrote_of};
+ghost use Rattle.curp_io.specs.Streams.{HoldsPart};
 ghost use Rattle.curp_msg.specs.Limits.{step_limit};
 ghost use Rattle.curp_msg.specs.declared.script.Header.{Header};
-ghost use Rattle.curp_runner.specs.Reading.{HoldsRead, IsBehind, IsOfWriting, IsSaid, due};
+ghost use Rattle.curp_runner.specs.Reading.{HoldsRead, IsBehind, IsSaid, due};
 ghost use Rattle.curp_runner.specs.Run.{Rules, SaysOfBytes, after, line_texts_in, text_due};
 ghost use Rattle.curp_runner.specs.Status.{ended, is_cut_short, status_of};
+ghost use Rattle.curp_runner.specs.Writing.{PutsText, WritesText};
 ghost use Rattle.curp_script.specs.Headers.{bad_field};
 ghost use Rattle.curp_script.specs.Script.{Ending};
 
@@ -62,13 +64,9 @@ pub trait Player: Drop {
     fn write_end<K: Sink>(&self, alloc: Global, number: u64, sink: &mut K) -> Result<(), Status>
         requires fits { Fits number self.now }
         requires counted { number ≤ step_limit + 1 }
-        ensures wrote { K.tells sink.old ≡ true → OnOk result (K.held sink.new ≡ K.held sink.old ++ rules.closing self.now) }
-        ensures prefix { K.tells sink.old ≡ true → HoldsPart (K.held sink.old) (K.held sink.new) (rules.closing self.now) }
-        ensures holds { OnOk result (Holds self.now) }
-        ensures writing { IfErr result IsOfWriting }
-        ensures tells { K.tells sink.old ≡ true → K.tells sink.new ≡ true }
-        ensures fault { result ≡ Err Status.WriteFault → Rose (K.faults sink.old) (K.faults sink.new) }
-        ensures no_fault { result ≢ Err Status.WriteFault → SameCount (K.faults sink.old) (K.faults sink.new) };
+        ensures puts { PutsText (rules.closing self.now)
+            (wrote_of K.tells K.held K.flushed K.faults sink.old sink.new) result }
+        ensures holds { OnOk result (Holds self.now) };
 
     /// What is said of bytes is what their lines mean and do.
     ghost says: { SaysOfBytes Self.Line.meaning rules Holds ending script_text line_texts Stands };
@@ -87,19 +85,15 @@ pub fn run<P: Player, S: Source, K: Sink>(
     ensures ends { S.tells source.old ≡ true → is_cut_short (ended result) ≡ false
         → ended result ≡ status_of (P.ending (S.left source.old)) }
     ensures end { S.tells source.old ≡ true → OnOk result (S.left source.new ≡ []) }
-    ensures wrote { S.tells source.old ≡ true → K.tells sink.old ≡ true → is_cut_short (ended result) ≡ false
-        → K.held sink.new ≡ K.held sink.old ++ P.script_text (S.left source.old) }
-    ensures prefix { S.tells source.old ≡ true → K.tells sink.old ≡ true
-        → HoldsPart (K.held sink.old) (K.held sink.new) (P.script_text (S.left source.old)) }
+    ensures wrote { S.tells source.old ≡ true → WritesText (P.script_text (S.left source.old))
+        (wrote_of K.tells K.held K.flushed K.faults sink.old sink.new) (ended result) }
     ensures at_fault { S.tells source.old ≡ true → K.tells sink.old ≡ true → result ≡ Err Status.ReadFault
         → HoldsRead P.line_texts (S.left source.old) (S.left source.new) (K.held sink.old) (K.held sink.new) }
     ensures passed_on { result ≡ Err Status.ReadFault → (K.flushed sink.new ≡ true) ⊎ (sink.new ≡ sink.old) }
     ensures stands { S.tells source.old ≡ true → OnOk result (P.Stands (S.left source.old)) }
     ensures tells { K.tells sink.old ≡ true → K.tells sink.new ≡ true }
-    ensures read_fault { result ≡ Err Status.ReadFault → Rose (S.faults source.old) (S.faults source.new) }
-    ensures no_read_fault { result ≢ Err Status.ReadFault → SameCount (S.faults source.old) (S.faults source.new) }
-    ensures write_fault { result ≡ Err Status.WriteFault → Rose (K.faults sink.old) (K.faults sink.new) }
-    ensures no_write_fault { result ≢ Err Status.WriteFault → SameCount (K.faults sink.old) (K.faults sink.new) }
+    ensures read_fault { TellsFault (result ≡ Err Status.ReadFault) (S.faults source.old) (S.faults source.new) }
+    ensures write_fault { TellsFault (result ≡ Err Status.WriteFault) (K.faults sink.old) (K.faults sink.new) }
     ensures never_usage { result ≢ Err Status.Usage }
     ensures never_ok { result ≢ Err Status.Ok }
 {
@@ -134,10 +128,8 @@ fn do_lines<P: Player, S: Source, K: Sink>(
     ensures holds { S.tells source.old ≡ true
         → OnOk result (P.Holds (after P.rules player (due P.Line.meaning script.old (S.left source.old)).lines)) }
     ensures tells { K.tells sink.old ≡ true → K.tells sink.new ≡ true }
-    ensures read_fault { result ≡ Err Status.ReadFault → Rose (S.faults source.old) (S.faults source.new) }
-    ensures no_read_fault { result ≢ Err Status.ReadFault → SameCount (S.faults source.old) (S.faults source.new) }
-    ensures write_fault { result ≡ Err Status.WriteFault → Rose (K.faults sink.old) (K.faults sink.new) }
-    ensures no_write_fault { result ≢ Err Status.WriteFault → SameCount (K.faults sink.old) (K.faults sink.new) }
+    ensures read_fault { TellsFault (result ≡ Err Status.ReadFault) (S.faults source.old) (S.faults source.new) }
+    ensures write_fault { TellsFault (result ≡ Err Status.WriteFault) (K.faults sink.old) (K.faults sink.new) }
     ensures never_usage { result ≢ Err Status.Usage }
     ensures never_ok { result ≢ Err Status.Ok }
 {
@@ -163,15 +155,9 @@ fn do_line<P: Player, K: Sink>(
     requires said { IsSaid P.Line.meaning line.now }
     requires valid { P.Line.IsValid line.now }
     ensures next { IfOk result (λ next. next ≡ P.rules.next player line.now) }
-    ensures wrote { K.tells sink.old ≡ true
-        → OnOk result (K.held sink.new ≡ K.held sink.old ++ P.rules.text number player line.now) }
-    ensures prefix { K.tells sink.old ≡ true
-        → HoldsPart (K.held sink.old) (K.held sink.new) (P.rules.text number player line.now) }
+    ensures puts { PutsText (P.rules.text number player line.now)
+        (wrote_of K.tells K.held K.flushed K.faults sink.old sink.new) result }
     ensures fits { IfOk result (λ next. P.Fits (number + 1) next) }
-    ensures writing { IfErr result IsOfWriting }
-    ensures tells { K.tells sink.old ≡ true → K.tells sink.new ≡ true }
-    ensures fault { result ≡ Err Status.WriteFault → Rose (K.faults sink.old) (K.faults sink.new) }
-    ensures no_fault { result ≢ Err Status.WriteFault → SameCount (K.faults sink.old) (K.faults sink.new) }
 {
     text.clear();
     let player = player.do_line(number, line, text)?;

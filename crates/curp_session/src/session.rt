@@ -1,12 +1,14 @@
 ghost use Rattle.std.specs.Prelude.{◌≡◌, ◌≢◌, ◌≤◌, ◌+◌, ◌-◌, ◌++◌, List, [], drop, take, ℕ, Bool, true, false, None, Some, Ok, Err, length, OnOk, IfOk, IfErr};
 ghost use Rattle.curp_base.specs.Words.{Each};
-ghost use Rattle.curp_io.specs.Streams.{HoldsPart, Rose, SameCount};
+ghost use Rattle.curp_io.specs.Streaming.{TellsFault, wrote_of};
+ghost use Rattle.curp_io.specs.Streams.{HoldsPart};
 ghost use Rattle.curp_law_print.specs.Ranges.{StepInRange};
 ghost use Rattle.curp_law_served.specs.Served.{begun, header_of};
 ghost use Rattle.curp_msg.specs.Limits.{step_limit};
 ghost use Rattle.curp_msg.specs.Script.{IsHeader};
-ghost use Rattle.curp_runner.specs.Reading.{IsOfWriting, script_in};
+ghost use Rattle.curp_runner.specs.Reading.{script_in};
 ghost use Rattle.curp_runner.specs.Status.{ended, is_cut_short};
+ghost use Rattle.curp_runner.specs.Writing.{PassesOn, PutsText, WritesText};
 ghost use Rattle.curp_resp.specs.Input.{Decomposes};
 ghost use Rattle.curp_resp.specs.Next.{IsNextRequest, nothing_read, repeated};
 ghost use Rattle.curp_resp.specs.Reply.{other_of, protocol_error, reply_of};
@@ -51,20 +53,16 @@ pub fn answer_requests<S: Source, K: Sink>(
         → Decomposes requests (S.left source.old) rest → is_cut_short result ≡ false
         → EndsSession (session plan.now requests).served.stopped (length
         (S.left source.old) - length rest) rest result }
-    // It writes the text of the session; where it is cut short, a prefix of it.
+    // It writes the text of the session, and passes it on.
     ensures wrote { (requests : List (List (List ℕ))) (rest : List ℕ) → S.tells source.old ≡ true
-        → K.tells sink.old ≡ true → Decomposes requests (S.left source.old) rest → is_cut_short result ≡ false
-        → K.held sink.new ≡ K.held sink.old ++ session_text plan.now requests rest }
-    ensures prefix { (requests : List (List (List ℕ))) (rest : List ℕ) → S.tells source.old ≡ true
-        → K.tells sink.old ≡ true → Decomposes requests (S.left source.old) rest
-        → HoldsPart (K.held sink.old) (K.held sink.new) (session_text plan.now requests rest) }
-    ensures flushed { is_cut_short result ≡ false → K.flushed sink.new ≡ true }
+        → Decomposes requests (S.left source.old) rest → WritesText (session_text plan.now requests rest)
+        (wrote_of K.tells K.held K.flushed K.faults sink.old sink.new) result }
+    ensures passes_on { PassesOn (wrote_of K.tells K.held K.flushed K.faults sink.old sink.new) result }
     // Where reading fails, it has written what is due for the whole requests that it was given.
     ensures at_fault { S.tells source.old ≡ true → K.tells sink.old ≡ true → result ≡ Status.ReadFault
         → HoldsAnswers plan.now (S.left source.old) (S.left source.new) (K.held sink.old) (K.held sink.new) }
-    // Before it waited for more input it had passed on what it wrote; where memory runs out, it does so in the end.
+    // Before it waited for more input it had passed on what it wrote.
     ensures passed_on { result ≡ Status.ReadFault → K.flushed sink.new ≡ true }
-    ensures out_of_memory { result ≡ Status.NoMemory → K.flushed sink.new ≡ true }
 
     // The script that it writes is read whole: as the header and the steps of the session.
     ensures plays { (requests : List (List (List ℕ))) (rest : List ℕ) → S.tells source.old ≡ true
@@ -76,10 +74,8 @@ pub fn answer_requests<S: Source, K: Sink>(
         } }
 
     // A fault comes exactly where the count of faults rose first.
-    ensures read_fault { result ≡ Status.ReadFault → Rose (S.faults source.old) (S.faults source.new) }
-    ensures no_read_fault { result ≢ Status.ReadFault → SameCount (S.faults source.old) (S.faults source.new) }
-    ensures write_fault { result ≡ Status.WriteFault → Rose (K.faults sink.old) (K.faults sink.new) }
-    ensures no_write_fault { result ≢ Status.WriteFault → SameCount (K.faults sink.old) (K.faults sink.new) }
+    ensures read_fault { TellsFault (result ≡ Status.ReadFault) (S.faults source.old) (S.faults source.new) }
+    ensures write_fault { TellsFault (result ≡ Status.WriteFault) (K.faults sink.old) (K.faults sink.new) }
     ensures never_usage { result ≢ Status.Usage }
 {
     printed_scripts_are_read();
@@ -103,10 +99,8 @@ fn answer_all<S: Source, K: Sink>(
         → HoldsAnswers plan.now (S.left source.old) (S.left source.new) (K.held sink.old) (K.held sink.new) }
     ensures passed_on { result ≡ Err Status.ReadFault → K.flushed sink.new ≡ true }
     ensures tells { K.tells sink.old ≡ true → K.tells sink.new ≡ true }
-    ensures write_fault { result ≡ Err Status.WriteFault → Rose (K.faults sink.old) (K.faults sink.new) }
-    ensures no_write_fault { result ≢ Err Status.WriteFault → SameCount (K.faults sink.old) (K.faults sink.new) }
-    ensures read_fault { result ≡ Err Status.ReadFault → Rose (S.faults source.old) (S.faults source.new) }
-    ensures no_read_fault { result ≢ Err Status.ReadFault → SameCount (S.faults source.old) (S.faults source.new) }
+    ensures write_fault { TellsFault (result ≡ Err Status.WriteFault) (K.faults sink.old) (K.faults sink.new) }
+    ensures read_fault { TellsFault (result ≡ Err Status.ReadFault) (S.faults source.old) (S.faults source.new) }
     ensures never_usage { result ≢ Err Status.Usage }
 {
     let mut requests = Requests::new(alloc)?;
@@ -136,10 +130,8 @@ fn answer_begun<S: Source, K: Sink>(
         → HoldsAnswers plan.now (S.left source.old) (S.left source.new) (K.held sink.old) (K.held sink.new) }
     ensures passed_on { result ≡ Err Status.ReadFault → K.flushed sink.new ≡ true }
     ensures tells { K.tells sink.old ≡ true → K.tells sink.new ≡ true }
-    ensures write_fault { result ≡ Err Status.WriteFault → Rose (K.faults sink.old) (K.faults sink.new) }
-    ensures no_write_fault { result ≢ Err Status.WriteFault → SameCount (K.faults sink.old) (K.faults sink.new) }
-    ensures read_fault { result ≡ Err Status.ReadFault → Rose (S.faults source.old) (S.faults source.new) }
-    ensures no_read_fault { result ≢ Err Status.ReadFault → SameCount (S.faults source.old) (S.faults source.new) }
+    ensures write_fault { TellsFault (result ≡ Err Status.WriteFault) (K.faults sink.old) (K.faults sink.new) }
+    ensures read_fault { TellsFault (result ≡ Err Status.ReadFault) (S.faults source.old) (S.faults source.new) }
     ensures never_usage { result ≢ Err Status.Usage }
 {
     write_opening(alloc, plan.output, served, sink)?;
@@ -190,10 +182,8 @@ fn answer_next<S: Source, K: Sink>(
     ensures every { served.new.every ≡ served.old.every }
     ensures source_tells { S.tells source.old ≡ true → S.tells source.new ≡ true }
     ensures tells { K.tells sink.old ≡ true → K.tells sink.new ≡ true }
-    ensures write_fault { result ≡ Err Status.WriteFault → Rose (K.faults sink.old) (K.faults sink.new) }
-    ensures no_write_fault { result ≢ Err Status.WriteFault → SameCount (K.faults sink.old) (K.faults sink.new) }
-    ensures read_fault { result ≡ Err Status.ReadFault → Rose (S.faults source.old) (S.faults source.new) }
-    ensures no_read_fault { result ≢ Err Status.ReadFault → SameCount (S.faults source.old) (S.faults source.new) }
+    ensures write_fault { TellsFault (result ≡ Err Status.WriteFault) (K.faults sink.old) (K.faults sink.new) }
+    ensures read_fault { TellsFault (result ≡ Err Status.ReadFault) (S.faults source.old) (S.faults source.new) }
     ensures never_usage { result ≢ Err Status.Usage }
 {
     let next = next_request(requests, source, sink)?;
@@ -228,10 +218,8 @@ fn next_request<S: Source, K: Sink>(
     ensures stops { IfErr result (λ stop. stop ≡ Status.WriteFault) }
     ensures source_tells { S.tells source.old ≡ true → S.tells source.new ≡ true }
     ensures tells { K.tells sink.old ≡ true → K.tells sink.new ≡ true }
-    ensures write_fault { result ≡ Err Status.WriteFault → Rose (K.faults sink.old) (K.faults sink.new) }
-    ensures no_write_fault { result ≢ Err Status.WriteFault → SameCount (K.faults sink.old) (K.faults sink.new) }
-    ensures read_fault { result ≡ Ok NextRequest.ReadFault → Rose (S.faults source.old) (S.faults source.new) }
-    ensures no_read_fault { result ≢ Ok NextRequest.ReadFault → SameCount (S.faults source.old) (S.faults source.new) }
+    ensures write_fault { TellsFault (result ≡ Err Status.WriteFault) (K.faults sink.old) (K.faults sink.new) }
+    ensures read_fault { TellsFault (result ≡ Ok NextRequest.ReadFault) (S.faults source.old) (S.faults source.new) }
 {
     if requests.has_request() {
         return Ok(requests.next_request(source));
@@ -255,8 +243,7 @@ fn wait_for_request<S: Source, K: Sink>(
     ensures failed { requests.new.failed ≡ repeated result }
     ensures none_ahead { result ≡ NextRequest.ReadFault → requests.new.ahead ≡ [] }
     ensures tells { S.tells source.old ≡ true → S.tells source.new ≡ true }
-    ensures cause { result ≡ NextRequest.ReadFault → Rose (S.faults source.old) (S.faults source.new) }
-    ensures told { result ≢ NextRequest.ReadFault → SameCount (S.faults source.old) (S.faults source.new) }
+    ensures read_fault { TellsFault (result ≡ NextRequest.ReadFault) (S.faults source.old) (S.faults source.new) }
 {
     requests.next_request(source)
 }
@@ -290,8 +277,7 @@ fn answer<K: Sink>(
     ensures every { served.new.every ≡ served.old.every }
     ensures answering { IfErr result IsOfAnswering }
     ensures tells { K.tells sink.old ≡ true → K.tells sink.new ≡ true }
-    ensures write_fault { result ≡ Err Status.WriteFault → Rose (K.faults sink.old) (K.faults sink.new) }
-    ensures no_write_fault { result ≢ Err Status.WriteFault → SameCount (K.faults sink.old) (K.faults sink.new) }
+    ensures write_fault { TellsFault (result ≡ Err Status.WriteFault) (K.faults sink.old) (K.faults sink.new) }
 {
     if count == REQUEST_LIMIT {
         return Err(Status::TooManySteps);
@@ -328,8 +314,7 @@ fn answer_command<K: Sink>(
     ensures every { served.new.every ≡ served.old.every }
     ensures answering { IfErr result IsOfAnswering }
     ensures tells { K.tells sink.old ≡ true → K.tells sink.new ≡ true }
-    ensures write_fault { result ≡ Err Status.WriteFault → Rose (K.faults sink.old) (K.faults sink.new) }
-    ensures no_write_fault { result ≢ Err Status.WriteFault → SameCount (K.faults sink.old) (K.faults sink.new) }
+    ensures write_fault { TellsFault (result ≡ Err Status.WriteFault) (K.faults sink.old) (K.faults sink.new) }
 {
     let before = served.steps().len();
     let ended = Ended::of(served.serve(command))?;
@@ -378,14 +363,8 @@ fn write_opening<K: Sink>(
     sink: &mut K,
 ) -> Result<(), Status>
     requires { IsHeader (header_of served.now.f) }
-    ensures wrote { K.tells sink.old ≡ true → OnOk result (K.held sink.new ≡ K.held sink.old
-        ++ so_far output served.now.f (fresh served.now.f)) }
-    ensures prefix { K.tells sink.old ≡ true → HoldsPart (K.held sink.old) (K.held sink.new)
-        (so_far output served.now.f (fresh served.now.f)) }
-    ensures writing { IfErr result IsOfWriting }
-    ensures tells { K.tells sink.old ≡ true → K.tells sink.new ≡ true }
-    ensures fault { result ≡ Err Status.WriteFault → Rose (K.faults sink.old) (K.faults sink.new) }
-    ensures no_fault { result ≢ Err Status.WriteFault → SameCount (K.faults sink.old) (K.faults sink.new) }
+    ensures { PutsText (so_far output served.now.f (fresh served.now.f))
+        (wrote_of K.tells K.held K.flushed K.faults sink.old sink.new) result }
 {
     match output {
         RespOutput::Replies => Ok(()),
@@ -395,12 +374,7 @@ fn write_opening<K: Sink>(
 
 // Writes the reply to an answer, if there is one.
 fn write_reply<K: Sink>(alloc: Global, answer: Option<Answer>, sink: &mut K) -> Result<(), Status>
-    ensures wrote { K.tells sink.old ≡ true → OnOk result (K.held sink.new ≡ K.held sink.old ++ reply_to answer) }
-    ensures prefix { K.tells sink.old ≡ true → HoldsPart (K.held sink.old) (K.held sink.new) (reply_to answer) }
-    ensures writing { IfErr result IsOfWriting }
-    ensures tells { K.tells sink.old ≡ true → K.tells sink.new ≡ true }
-    ensures fault { result ≡ Err Status.WriteFault → Rose (K.faults sink.old) (K.faults sink.new) }
-    ensures no_fault { result ≢ Err Status.WriteFault → SameCount (K.faults sink.old) (K.faults sink.new) }
+    ensures { PutsText (reply_to answer) (wrote_of K.tells K.held K.flushed K.faults sink.old sink.new) result }
 {
     match answer {
         Some(answer) => write(sink, &reply_text(alloc, &answer)?),
@@ -415,14 +389,8 @@ fn write_other<K: Sink>(
     other: &Other,
     sink: &mut K,
 ) -> Result<(), Status>
-    ensures wrote { K.tells sink.old ≡ true → OnOk result (K.held sink.new ≡ K.held sink.old
-        ++ if_replies output (other_of other.now)) }
-    ensures prefix { K.tells sink.old ≡ true → HoldsPart (K.held sink.old) (K.held sink.new) (if_replies output
-        (other_of other.now)) }
-    ensures writing { IfErr result IsOfWriting }
-    ensures tells { K.tells sink.old ≡ true → K.tells sink.new ≡ true }
-    ensures fault { result ≡ Err Status.WriteFault → Rose (K.faults sink.old) (K.faults sink.new) }
-    ensures no_fault { result ≢ Err Status.WriteFault → SameCount (K.faults sink.old) (K.faults sink.new) }
+    ensures { PutsText (if_replies output (other_of other.now))
+        (wrote_of K.tells K.held K.flushed K.faults sink.old sink.new) result }
 {
     match output {
         RespOutput::Replies => write(sink, &other_text(alloc, other)?),
@@ -432,14 +400,8 @@ fn write_other<K: Sink>(
 
 // Writes the reply to bytes that are no request, where replies are written.
 fn write_protocol<K: Sink>(output: RespOutput, sink: &mut K) -> Result<(), Status>
-    ensures wrote { K.tells sink.old ≡ true → OnOk result (K.held sink.new ≡ K.held sink.old
-        ++ if_replies output protocol_error) }
-    ensures prefix { K.tells sink.old ≡ true → HoldsPart (K.held sink.old) (K.held sink.new)
-        (if_replies output protocol_error) }
-    ensures writing { IfErr result IsOfWriting }
-    ensures tells { K.tells sink.old ≡ true → K.tells sink.new ≡ true }
-    ensures fault { result ≡ Err Status.WriteFault → Rose (K.faults sink.old) (K.faults sink.new) }
-    ensures no_fault { result ≢ Err Status.WriteFault → SameCount (K.faults sink.old) (K.faults sink.new) }
+    ensures { PutsText (if_replies output protocol_error)
+        (wrote_of K.tells K.held K.flushed K.faults sink.old sink.new) result }
 {
     match output {
         RespOutput::Replies => write(sink, protocol_text()),
@@ -457,14 +419,8 @@ fn write_due<K: Sink>(
     sink: &mut K,
 ) -> Result<(), Status>
     requires { before ≤ length served.now.state.steps }
-    ensures wrote { K.tells sink.old ≡ true → OnOk result (K.held sink.new ≡ K.held sink.old
-        ++ due_of output answer (drop before served.now.state.steps)) }
-    ensures prefix { K.tells sink.old ≡ true → HoldsPart (K.held sink.old) (K.held sink.new) (due_of output answer
-        (drop before served.now.state.steps)) }
-    ensures writing { IfErr result IsOfWriting }
-    ensures tells { K.tells sink.old ≡ true → K.tells sink.new ≡ true }
-    ensures fault { result ≡ Err Status.WriteFault → Rose (K.faults sink.old) (K.faults sink.new) }
-    ensures no_fault { result ≢ Err Status.WriteFault → SameCount (K.faults sink.old) (K.faults sink.new) }
+    ensures puts { PutsText (due_of output answer (drop before served.now.state.steps))
+        (wrote_of K.tells K.held K.flushed K.faults sink.old sink.new) result }
     ensures printable { output ≡ RespOutput.Script → Each StepInRange (take before served.now.state.steps)
         → OnOk result (AreReadBack served.now.state.steps) }
 {
@@ -482,14 +438,8 @@ fn write_steps<K: Sink>(
     sink: &mut K,
 ) -> Result<(), Status>
     requires { before ≤ length served.now.state.steps }
-    ensures wrote { K.tells sink.old ≡ true → OnOk result (K.held sink.new ≡ K.held sink.old
-        ++ lines_text (drop before served.now.state.steps)) }
-    ensures prefix { K.tells sink.old ≡ true → HoldsPart (K.held sink.old) (K.held sink.new) (lines_text
-        (drop before served.now.state.steps)) }
-    ensures writing { IfErr result IsOfWriting }
-    ensures tells { K.tells sink.old ≡ true → K.tells sink.new ≡ true }
-    ensures fault { result ≡ Err Status.WriteFault → Rose (K.faults sink.old) (K.faults sink.new) }
-    ensures no_fault { result ≢ Err Status.WriteFault → SameCount (K.faults sink.old) (K.faults sink.new) }
+    ensures puts { PutsText (lines_text (drop before served.now.state.steps))
+        (wrote_of K.tells K.held K.flushed K.faults sink.old sink.new) result }
     ensures named { Each NamesNode served.now.state.steps }
     ensures few { length served.now.state.steps ≤ step_limit }
     ensures in_range { OnOk result (Each StepInRange (drop before served.now.state.steps)) }
@@ -501,12 +451,8 @@ fn write_steps<K: Sink>(
 // Writes the lines of steps.
 fn write_lines<K: Sink>(alloc: Global, steps: &[Step], sink: &mut K) -> Result<(), Status>
     requires { Each NamesNode steps.now }
-    ensures wrote { K.tells sink.old ≡ true → OnOk result (K.held sink.new ≡ K.held sink.old ++ lines_text steps.now) }
-    ensures prefix { K.tells sink.old ≡ true → HoldsPart (K.held sink.old) (K.held sink.new) (lines_text steps.now) }
-    ensures writing { IfErr result IsOfWriting }
-    ensures tells { K.tells sink.old ≡ true → K.tells sink.new ≡ true }
-    ensures fault { result ≡ Err Status.WriteFault → Rose (K.faults sink.old) (K.faults sink.new) }
-    ensures no_fault { result ≢ Err Status.WriteFault → SameCount (K.faults sink.old) (K.faults sink.new) }
+    ensures puts { PutsText (lines_text steps.now)
+        (wrote_of K.tells K.held K.flushed K.faults sink.old sink.new) result }
     ensures in_range { OnOk result (Each StepInRange steps.now) }
 {
     for step in steps {
@@ -518,12 +464,7 @@ fn write_lines<K: Sink>(alloc: Global, steps: &[Step], sink: &mut K) -> Result<(
 
 // Writes a line, with a line feed.
 fn write_line<K: Sink>(mut line: Vec<u8>, sink: &mut K) -> Result<(), Status>
-    ensures wrote { K.tells sink.old ≡ true → OnOk result (K.held sink.new ≡ K.held sink.old ++ line_text line.items) }
-    ensures prefix { K.tells sink.old ≡ true → HoldsPart (K.held sink.old) (K.held sink.new) (line_text line.items) }
-    ensures writing { IfErr result IsOfWriting }
-    ensures tells { K.tells sink.old ≡ true → K.tells sink.new ≡ true }
-    ensures fault { result ≡ Err Status.WriteFault → Rose (K.faults sink.old) (K.faults sink.new) }
-    ensures no_fault { result ≢ Err Status.WriteFault → SameCount (K.faults sink.old) (K.faults sink.new) }
+    ensures { PutsText (line_text line.items) (wrote_of K.tells K.held K.flushed K.faults sink.old sink.new) result }
 {
     line.reserve(1)?;
     line.push_reserved(b'\n');

@@ -1,8 +1,10 @@
 //! A script, and what playing it writes.
-ghost use Rattle.std.specs.Prelude.{◌≡◌, ◌≢◌, ◌++◌, ◌∷◌, [], true, Err, OnOk, IfErr};
-ghost use Rattle.curp_io.specs.Streams.{HoldsPart, Rose, SameCount};
+ghost use Rattle.std.specs.Prelude.{◌≡◌, ◌++◌, ◌∷◌, [], true, Err};
+ghost use Rattle.curp_io.specs.Streaming.{TellsFault, wrote_of};
+ghost use Rattle.curp_io.specs.Streams.{HoldsPart};
 ghost use Rattle.curp_play.specs.Play.{HasAnOrder, text_of};
-ghost use Rattle.curp_runner.specs.Reading.{IsOfWriting, script_in};
+ghost use Rattle.curp_runner.specs.Reading.{script_in};
+ghost use Rattle.curp_runner.specs.Writing.{PutsText};
 ghost use Rattle.curp_script.specs.Script.{Whole};
 ghost use Rattle.curp_show.specs.Show.{EndsMade, IsOfMaking, played};
 
@@ -21,8 +23,7 @@ pub fn write_played<K: Sink>(alloc: Global, text: &[u8], sink: &mut K) -> Status
     ensures flushed { result ≡ Status.Ok → K.flushed sink.new ≡ true }
     ensures of_making { IsOfMaking result }
     ensures complete { EndsMade result (K.faults sink.old) (K.faults sink.new) }
-    ensures write_fault { result ≡ Status.WriteFault → Rose (K.faults sink.old) (K.faults sink.new) }
-    ensures no_write_fault { result ≢ Status.WriteFault → SameCount (K.faults sink.old) (K.faults sink.new) }
+    ensures write_fault { TellsFault (result ≡ Status.WriteFault) (K.faults sink.old) (K.faults sink.new) }
 {
     match write_script(text, sink) {
         Ok(()) => play_text(alloc, text, sink),
@@ -32,13 +33,7 @@ pub fn write_played<K: Sink>(alloc: Global, text: &[u8], sink: &mut K) -> Status
 
 /// Writes a script, and an empty line.
 fn write_script<K: Sink>(text: &[u8], sink: &mut K) -> Result<(), Status>
-    ensures wrote { K.tells sink.old ≡ true
-        → OnOk result (K.held sink.new ≡ K.held sink.old ++ (text.now ++ 10 ∷ [])) }
-    ensures prefix { K.tells sink.old ≡ true → HoldsPart (K.held sink.old) (K.held sink.new) (text.now ++ 10 ∷ []) }
-    ensures writing { IfErr result IsOfWriting }
-    ensures tells { K.tells sink.old ≡ true → K.tells sink.new ≡ true }
-    ensures fault { result ≡ Err Status.WriteFault → Rose (K.faults sink.old) (K.faults sink.new) }
-    ensures no_fault { result ≢ Err Status.WriteFault → SameCount (K.faults sink.old) (K.faults sink.new) }
+    ensures { PutsText (text.now ++ 10 ∷ []) (wrote_of K.tells K.held K.flushed K.faults sink.old sink.new) result }
 {
     write(sink, text)?;
     write(sink, b"\n")
@@ -55,8 +50,7 @@ fn play_text<K: Sink>(alloc: Global, text: &[u8], sink: &mut K) -> Status
     ensures flushed { result ≡ Status.Ok → K.flushed sink.new ≡ true }
     ensures of_making { IsOfMaking result }
     ensures complete { EndsMade result (K.faults sink.old) (K.faults sink.new) }
-    ensures write_fault { result ≡ Status.WriteFault → Rose (K.faults sink.old) (K.faults sink.new) }
-    ensures no_write_fault { result ≢ Status.WriteFault → SameCount (K.faults sink.old) (K.faults sink.new) }
+    ensures write_fault { TellsFault (result ≡ Status.WriteFault) (K.faults sink.old) (K.faults sink.new) }
 {
     match SureSource::new(alloc, text) {
         Ok(mut source) => play_script(alloc, &mut source, sink),

@@ -1,7 +1,14 @@
-use Rattle.std.proofs.Common.{◌∙◌, ap}
-use Rattle.curp_runner.specs.Status.{ended, is_fault}
+use Rattle.std.proofs.Common.{refl}
+use Rattle.curp_io.specs.Streaming.{wrote_of}
+use Rattle.curp_runner.proofs.Endings.{closed_read_fault, closed_text}
 use Rattle.curp_manage.proofs.manage.manage_orders.Goals as goal
 
-pub returns-clause-no_read_fault : goal.returns-clause-no_read_fault
-returns-clause-no_read_fault g c = λ other. c.run-managed.ensures.no_read_fault (λ is.
-    other ((c.close.ensures.stays (ap (λ r. is_fault (ended r)) is)).0 ∙ ap ended is))
+pub returns-clause-wrote : goal.returns-clause-wrote
+returns-clause-wrote g c = λ told.
+    closed_text _ (wrote_of g.K.Sink.tells g.K.Sink.held g.K.Sink.flushed g.K.Sink.faults c.args.sink.now c.run-managed.new.sink)
+    (wrote_of g.K.Sink.tells g.K.Sink.held g.K.Sink.flushed g.K.Sink.faults c.args.sink.now c.close.new.sink) c.run-managed.result c.close.result refl refl
+    (λ tells. c.close.ensures.held (c.run-managed.ensures.tells tells)) c.close.ensures.ends (c.run-managed.ensures.wrote told)
+
+pub returns-clause-read_fault : goal.returns-clause-read_fault
+returns-clause-read_fault g c =
+    closed_read_fault c.run-managed.result c.close.result _ _ c.close.ensures.ends (λ fault. (c.close.ensures.stays fault).0) c.run-managed.ensures.read_fault

@@ -1,4 +1,5 @@
-use Rattle.std.proofs.Common.{◌≡◌, ◌∙◌, ◌++◌, List, OnOk, subst, ap}
+use Rattle.std.proofs.Common.{arith, rules, ◌≡◌, ◌∙◌, ◌++◌, List, OnOk, subst, ap}
+use Rattle.std.proofs.lemmas.Grind.{common_steps}
 use Rattle.curp_base.specs.Words.{Each}
 use Rattle.curp_order.specs.Order.{Asked}
 use Rattle.curp_law_print.specs.EventRanges.{AskedInRange, EventInRange}
@@ -22,35 +23,41 @@ returns-clause-claim g c =
     (c.orders_are_short.ensures w.history (order w) c.order.ensures.is_order) c.printed_claims_are_read.ensures)
     c.write_order.ensures.in_range
 
-pub returns-in_err-write_events-clause-prefix : goal.returns-in_err-write_events-clause-prefix
-returns-in_err-write_events-clause-prefix g c = λ tells.
+pub returns-in_err-write_events-clause-puts : goal.returns-in_err-write_events-clause-puts
+returns-in_err-write_events-clause-puts g c =
     let w = c.args.world.now in
     let old = g.K.Sink.held c.args.sink.now in
     let new = g.K.Sink.held c.write_events.new.sink in
     let events = c.events.ensures ∙ c.history.ensures.events in
-    first_of_two old new (history_lines w.history) (order_lines (order w))
-    (subst (λ (es : List seen.Event). HoldsPart old new (history_lines es)) events (c.write_events.ensures.prefix tells))
+    record {
+      whole = first_of (search rules, grind (arith, common_steps));
+      prefix = λ tells.
+          first_of_two old new (history_lines w.history) (order_lines (order w))
+          (subst (λ (es : List seen.Event). HoldsPart old new (history_lines es)) events (c.write_events.ensures.puts.prefix tells));
+      writing = first_of (search rules, grind (arith, common_steps));
+      tells = first_of (search rules, grind (arith, common_steps));
+      fault = first_of (search rules, grind (arith, common_steps));
+    }
 
-pub returns-clause-wrote : goal.returns-clause-wrote
-returns-clause-wrote g c = λ tells.
+pub returns-clause-puts : goal.returns-clause-puts
+returns-clause-puts g c =
     let w = c.args.world.now in
     let old = g.K.Sink.held c.args.sink.now in
     let mid = g.K.Sink.held c.write_events.new.sink in
     let new = g.K.Sink.held c.write_order.new.sink in
     let events = c.events.ensures ∙ c.history.ensures.events in
     let asked = ap asked_of (c.deref.ensures.value ∙ c.in_ok-order.ensures.list) ∙ asked_of_order w in
-    both_if_ok c.write_order.result old mid new (history_lines w.history) (order_lines (order w))
-    (c.in_ok-write_events.ensures.wrote tells ∙ ap (λ (es : List seen.Event). old ++ history_lines es) events)
-    (subst (λ (xs : List Asked). OnOk c.write_order.result (new ≡ mid ++ order_lines xs)) asked (c.write_order.ensures.wrote (c.write_events.ensures.tells tells)))
-
-pub returns-clause-prefix : goal.returns-clause-prefix
-returns-clause-prefix g c = λ tells.
-    let w = c.args.world.now in
-    let old = g.K.Sink.held c.args.sink.now in
-    let mid = g.K.Sink.held c.write_events.new.sink in
-    let new = g.K.Sink.held c.write_order.new.sink in
-    let events = c.events.ensures ∙ c.history.ensures.events in
-    let asked = ap asked_of (c.deref.ensures.value ∙ c.in_ok-order.ensures.list) ∙ asked_of_order w in
-    second_of_two old mid new (history_lines w.history) (order_lines (order w))
-    (c.in_ok-write_events.ensures.wrote tells ∙ ap (λ (es : List seen.Event). old ++ history_lines es) events)
-    (subst (λ (xs : List Asked). HoldsPart mid new (order_lines xs)) asked (c.write_order.ensures.prefix (c.write_events.ensures.tells tells)))
+    record {
+      whole = λ tells.
+          both_if_ok c.write_order.result old mid new (history_lines w.history) (order_lines (order w))
+          (c.in_ok-write_events.ensures.puts.whole tells ∙ ap (λ (es : List seen.Event). old ++ history_lines es) events)
+          (subst (λ (xs : List Asked). OnOk c.write_order.result (new ≡ mid ++ order_lines xs)) asked
+          (c.write_order.ensures.puts.whole (c.write_events.ensures.puts.tells tells)));
+      prefix = λ tells.
+          second_of_two old mid new (history_lines w.history) (order_lines (order w))
+          (c.in_ok-write_events.ensures.puts.whole tells ∙ ap (λ (es : List seen.Event). old ++ history_lines es) events)
+          (subst (λ (xs : List Asked). HoldsPart mid new (order_lines xs)) asked (c.write_order.ensures.puts.prefix (c.write_events.ensures.puts.tells tells)));
+      writing = first_of (search rules, grind (arith, common_steps));
+      tells = first_of (search rules, grind (arith, common_steps));
+      fault = first_of (search rules, grind (arith, common_steps));
+    }

@@ -1,7 +1,8 @@
 use Rattle.std.proofs.Common.{◌≡◌, ⊎_elim, inl, inr, Option, Some, refl, ap, sym, subst, rules}
+use Rattle.curp_io.specs.Streaming.{took_of, wrote_of}
 use Rattle.curp_run.proofs.Ends.{making_never_asks, making_never_reads, making_whole}
 use Rattle.curp_run.proofs.Nothing.{nothing_done}
-use Rattle.curp_run.specs.Does.{DoesAsked, took_of, wrote_of}
+use Rattle.curp_run.specs.Does.{DoesAsked}
 use Rattle.curp_run.specs.Run.{asked}
 use Rattle.curp_words.specs.declared.task.Report.TheVariants.{Steps, History}
 use Rattle.curp_words.specs.declared.task.Task.{Task}
@@ -16,17 +17,15 @@ returns-in-Ok-Play-Steps-clause-ran g c =
     let asks : asked c.args.arguments.now ≡ Some (Play Steps) = search rules in
     record {
       did = subst (λ (task : Option Task). DoesAsked task took wrote c.play_script.result) (sym asks) (record {
-        does = record { ends = did.ends; end = did.end; complete = did.complete; text = did.wrote; prefix = did.prefix };
+        does = record { ends = did.ends; end = did.end; complete = did.complete; text = did.wrote };
         at_fault = did.at_fault;
         passed_on = λ is. ⊎_elim (λ flushed. inl flushed) (λ same. inr (ap g.K.Sink.held same)) (did.passed_on is);
         order = did.order;
       });
       usage = λ is. absurd (did.never_usage is);
-      flushed = λ some cut. did.flushed cut;
+      flushed = λ some cut. did.passes_on.whole cut;
       read_fault = did.read_fault;
-      no_read_fault = did.no_read_fault;
       write_fault = did.write_fault;
-      no_write_fault = did.no_write_fault;
     }
 
 pub returns-in-Ok-Play-History-clause-ran : goal.returns-in-Ok-Play-History-clause-ran
@@ -37,15 +36,13 @@ returns-in-Ok-Play-History-clause-ran g c =
     let asks : asked c.args.arguments.now ≡ Some (Play History) = search rules in
     record {
       did = subst (λ (task : Option Task). DoesAsked task took wrote c.play_history.result) (sym asks) (record {
-        does = record { ends = did.ends; end = did.end; complete = did.complete; text = did.wrote; prefix = did.prefix };
+        does = record { ends = did.ends; end = did.end; complete = did.complete; text = did.wrote };
         order = did.claim;
       });
       usage = λ is. absurd (did.never_usage is);
-      flushed = λ some cut. did.flushed cut;
+      flushed = λ some cut. did.passes_on.whole cut;
       read_fault = did.read_fault;
-      no_read_fault = did.no_read_fault;
       write_fault = did.write_fault;
-      no_write_fault = did.no_write_fault;
     }
 
 pub returns-in-Ok-Manage-clause-ran : goal.returns-in-Ok-Manage-clause-ran
@@ -56,16 +53,14 @@ returns-in-Ok-Manage-clause-ran g c =
     let asks : asked c.args.arguments.now ≡ Some Manage = search rules in
     record {
       did = subst (λ (task : Option Task). DoesAsked task took wrote c.manage_orders.result) (sym asks) (record {
-        does = record { ends = did.ends; end = did.end; complete = did.complete; text = did.wrote; prefix = did.prefix };
+        does = record { ends = did.ends; end = did.end; complete = did.complete; text = did.wrote };
         at_fault = did.at_fault;
         passed_on = λ is. ⊎_elim (λ flushed. inl flushed) (λ same. inr (ap g.K.Sink.held same)) (did.passed_on is);
       });
       usage = λ is. absurd (did.never_usage is);
-      flushed = λ some cut. did.flushed cut;
+      flushed = λ some cut. did.passes_on.whole cut;
       read_fault = did.read_fault;
-      no_read_fault = did.no_read_fault;
       write_fault = did.write_fault;
-      no_write_fault = did.no_write_fault;
     }
 
 pub returns-in-Ok-Live-clause-ran : goal.returns-in-Ok-Live-clause-ran
@@ -83,10 +78,8 @@ returns-in-Ok-Live-clause-ran g c =
       });
       usage = λ is. absurd (making_never_asks c.live_script.result did.of_making is);
       flushed = λ some cut. did.flushed (making_whole c.live_script.result did.of_making cut);
-      read_fault = λ is. absurd (making_never_reads c.live_script.result did.of_making is);
-      no_read_fault = λ other. refl;
+      read_fault = record { rose = λ is. absurd (making_never_reads c.live_script.result did.of_making is); stands = λ other. refl };
       write_fault = did.write_fault;
-      no_write_fault = did.no_write_fault;
     }
 
 pub returns-in-Err-NoMemory-clause-ran : goal.returns-in-Err-NoMemory-clause-ran
@@ -94,8 +87,6 @@ returns-in-Err-NoMemory-clause-ran g c = record {
   did = nothing_done _ _ _ refl;
   usage = λ is. absurd cc;
   flushed = λ some cut. absurd cc;
-  read_fault = λ is. absurd cc;
-  no_read_fault = λ is. refl;
-  write_fault = λ is. absurd cc;
-  no_write_fault = λ is. refl;
+  read_fault = record { rose = λ is. absurd cc; stands = λ is. refl };
+  write_fault = record { rose = λ is. absurd cc; stands = λ is. refl };
 }

@@ -19,7 +19,7 @@ pub returns-clause-wrote : goal.returns-clause-wrote
 returns-clause-wrote g c = λ tells.
     let made = sym (no_more c.loop.maker c.loop.counter c.args.count (search rules)) ∙ c.loop.invariant.leads in
     let text = c.as_bytes.ensures.value ∙ (c.in_ok-text.ensures.ok ∙ ap summary_text (c.in_ok-summary.ensures ∙ ap summary_of made)) in
-    subst (λ t. OnOk c.write.result (g.K.Sink.held c.write.new.sink ≡ g.K.Sink.held c.args.sink.now ++ t)) text (c.write.ensures.wrote tells)
+    subst (λ t. OnOk c.write.result (g.K.Sink.held c.write.new.sink ≡ g.K.Sink.held c.args.sink.now ++ t)) text (c.write.ensures.whole tells)
 
 pub returns-clause-prefix : goal.returns-clause-prefix
 returns-clause-prefix g c = λ tells.

@@ -39,7 +39,7 @@ lines-preserved g c =
       behind = rw c.in-Some.is at c.in_ok-line.ensures.goes_on;
       fits = c.in_ok-player.ensures.fits;
       source_tells = λ told. c.read_line.ensures.source_tells (c.lines.invariant.source_tells told);
-      sink_tells = λ told. c.do_line.ensures.tells (c.read_line.ensures.sink_tells (c.lines.invariant.sink_tells told));
+      sink_tells = λ told. c.do_line.ensures.puts.tells (c.read_line.ensures.sink_tells (c.lines.invariant.sink_tells told));
       source_faults = search rules;
       sink_faults = search rules;
       ending = λ told.
@@ -60,12 +60,12 @@ lines-preserved g c =
           let given = rw c.in-Some.is at c.in_ok-line.ensures.due (c.lines.invariant.source_tells told) in
           let next = next_text play c.lines.number c.lines.player c.in_ok-player.player l body rest given c.in_ok-player.ensures.next in
           let due_text = subst (λ d. SoFar text old now d) next so_far in
-          goes_further text old now new piece left due_text (c.in_ok-player.ensures.wrote (c.read_line.ensures.sink_tells (c.lines.invariant.sink_tells writes)));
+          goes_further text old now new piece left due_text (c.in_ok-player.ensures.puts.whole (c.read_line.ensures.sink_tells (c.lines.invariant.sink_tells writes)));
       told = λ told writes.
           let line = rw c.in-Some.is at c.in_ok-line.ensures.line (c.lines.invariant.source_tells told) in
           told_more meaning play _ _ _ line.line c.lines.number c.args.player c.lines.player c.in_ok-player.player _ _ _ l
           (told_so_far meaning play _ _ _ _ _ _ _ _ (c.read_line.ensures.held (c.lines.invariant.sink_tells writes)) (c.lines.invariant.told told writes)) line.given line.is few
-          c.in_ok-player.ensures.next (c.in_ok-player.ensures.wrote (c.read_line.ensures.sink_tells (c.lines.invariant.sink_tells writes)));
+          c.in_ok-player.ensures.next (c.in_ok-player.ensures.puts.whole (c.read_line.ensures.sink_tells (c.lines.invariant.sink_tells writes)));
     }
 
 pub returns-in_err-player-clause-prefix : goal.returns-in_err-player-clause-prefix
@@ -85,13 +85,13 @@ returns-in_err-player-clause-prefix g c = λ told writes.
     let given = rw c.in-Some.is at c.in_ok-line.ensures.due (c.lines.invariant.source_tells told) in
     let next = next_text play c.lines.number c.lines.player w l body rest given refl in
     let due_text = subst (λ d. SoFar text old now d) next so_far in
-    still_prefix text old now (g.K.Sink.held c.do_line.new.sink) piece left due_text (c.do_line.ensures.prefix (c.read_line.ensures.sink_tells (c.lines.invariant.sink_tells writes)))
+    still_prefix text old now (g.K.Sink.held c.do_line.new.sink) piece left due_text (c.do_line.ensures.puts.prefix (c.read_line.ensures.sink_tells (c.lines.invariant.sink_tells writes)))
 
 pub returns-clause-ends : goal.returns-clause-ends
 returns-clause-ends g c = λ told cut.
     let none = none_left c.in_ok-line.field-0 c.in_default.not-Some in
     let given = rw none at c.in_ok-line.ensures.due (c.lines.invariant.source_tells told) in
-    ended_well c.write_end.result c.write_end.ensures.writing cut
+    ended_well c.write_end.result c.write_end.ensures.puts.writing cut
     ∙ ap status_of (sym (ap (λ (b : Said _). b.ending) given) ∙ c.lines.invariant.ending told)
 
 pub returns-clause-end : goal.returns-clause-end
@@ -111,7 +111,7 @@ returns-clause-prefix g c = λ told writes.
     let given = rw none at c.in_ok-line.ensures.due (c.lines.invariant.source_tells told) in
     let left : SoFar text old now (last ++ []) =
     subst (λ d. SoFar text old now d) (ap (λ (b : Said _). text_due play c.lines.number c.lines.player b) given ∙ sym (append-nil last)) so_far in
-    still_prefix text old now (g.K.Sink.held c.write_end.new.sink) last [] left (c.write_end.ensures.prefix (c.read_line.ensures.sink_tells (c.lines.invariant.sink_tells writes)))
+    still_prefix text old now (g.K.Sink.held c.write_end.new.sink) last [] left (c.write_end.ensures.puts.prefix (c.read_line.ensures.sink_tells (c.lines.invariant.sink_tells writes)))
 
 pub returns-clause-wrote : goal.returns-clause-wrote
 returns-clause-wrote g c = λ told writes whole.
@@ -126,7 +126,7 @@ returns-clause-wrote g c = λ told writes whole.
     let s : SoFar text old now last =
     subst (λ d. SoFar text old now d) (ap (λ (b : Said _). text_due play c.lines.number c.lines.player b) given) so_far in
     let wrote : g.K.Sink.held c.write_end.new.sink ≡ now ++ last =
-    written_whole c.write_end.result c.write_end.ensures.writing whole (c.write_end.ensures.wrote (c.read_line.ensures.sink_tells (c.lines.invariant.sink_tells writes))) in
+    written_whole c.write_end.result c.write_end.ensures.puts.writing whole (c.write_end.ensures.puts.whole (c.read_line.ensures.sink_tells (c.lines.invariant.sink_tells writes))) in
     wrote ∙ ap (λ (l : List ℕ). l ++ last) s.is ∙ append_assoc old s.done last ∙ ap (λ (l : List ℕ). old ++ l) s.goes_on
 
 pub returns-clause-holds : goal.returns-clause-holds

@@ -26,7 +26,7 @@ answers-init g c =
     let old = g.K.Sink.held c.args.sink.now in
     let new = g.K.Sink.held c.write_opening.new.sink in
     let wrote : g.K.Sink.tells c.args.sink.now ≡ true → new ≡ old ++ so_far plan.output plan.f (fresh plan.f) =
-    λ writes. subst (λ (f : ℕ). new ≡ old ++ so_far plan.output f (fresh f)) (ap (λ (s : Serving). s.f) c.requires.begun) (c.in_ok-write_opening.ensures.wrote writes) in
+    λ writes. subst (λ (f : ℕ). new ≡ old ++ so_far plan.output f (fresh f)) (ap (λ (s : Serving). s.f) c.requires.begun) (c.in_ok-write_opening.ensures.whole writes) in
     record {
       few = search rules;
       going = ap (λ (s : Serving). s.is_spent) c.requires.begun;

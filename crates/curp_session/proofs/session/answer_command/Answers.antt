@@ -20,7 +20,7 @@ returns-in_err-write_due-clause-prefix g c = λ k before tells same is.
     (c.serve.ensures.state c.in_ok-ended.ensures.made) (c.in_ok-ended.ensures.answer ∙ c.serve.ensures.answer c.in_ok-ended.ensures.made)
     (ap (λ (xs : List Step). length xs) c.steps-before.ensures.steps) in
     subst (λ (t : List ℕ). HoldsPart before new t) text
-    (part_behind before (g.K.Sink.held c.args.sink.now) new (so_far c.args.output f k) _ is (c.write_due.ensures.prefix tells))
+    (part_behind before (g.K.Sink.held c.args.sink.now) new (so_far c.args.output f k) _ is (c.write_due.ensures.puts.prefix tells))
 
 pub returns-clause-wrote : goal.returns-clause-wrote
 returns-clause-wrote g c = λ k before tells same is still.
@@ -30,7 +30,7 @@ returns-clause-wrote g c = λ k before tells same is still.
     command_due c.args.output f c.args.served.now.every c.args.command k c.args.served.now.state _ _ _ same
     (c.serve.ensures.state c.in_ok-ended.ensures.made) (c.in_ok-ended.ensures.answer ∙ c.serve.ensures.answer c.in_ok-ended.ensures.made)
     (ap (λ (xs : List Step). length xs) c.steps-before.ensures.steps) in
-    whole_behind before (g.K.Sink.held c.args.sink.now) new (so_far c.args.output f k) _ is (c.in_ok-write_due.ensures.wrote tells)
+    whole_behind before (g.K.Sink.held c.args.sink.now) new (so_far c.args.output f k) _ is (c.in_ok-write_due.ensures.puts.whole tells)
     ∙ ap (λ (t : List ℕ). before ++ t) text
 
 pub returns-clause-prefix : goal.returns-clause-prefix
@@ -42,4 +42,4 @@ returns-clause-prefix g c = λ k before tells same is.
     (c.serve.ensures.state c.in_ok-ended.ensures.made) (c.in_ok-ended.ensures.answer ∙ c.serve.ensures.answer c.in_ok-ended.ensures.made)
     (ap (λ (xs : List Step). length xs) c.steps-before.ensures.steps) in
     subst (λ (t : List ℕ). HoldsPart before new t) text
-    (part_behind before (g.K.Sink.held c.args.sink.now) new (so_far c.args.output f k) _ is (c.write_due.ensures.prefix tells))
+    (part_behind before (g.K.Sink.held c.args.sink.now) new (so_far c.args.output f k) _ is (c.write_due.ensures.puts.prefix tells))

@@ -88,7 +88,7 @@ returns-in_ok-write_protocol-in-BadRequest-clause-next g c = λ aim tells o f e 
     let here = still_stands aim tells (g.K.Sink.held c.args.sink.now) old _ _ _ _ h (λ t. c.next_request.ensures.held (sinks t)) in
     finishes_broken aim tells old (g.K.Sink.held c.write_protocol.new.sink) c.args.served.now.state c.args.count _ _ _ c.in-BadRequest.at here
     (rw c.in-BadRequest.is at c.in_ok-next.ensures.bytes told)
-    (λ t. rw (← o) at c.in_ok-write_protocol-in-BadRequest.ensures.wrote (c.next_request.ensures.tells (sinks t)))
+    (λ t. rw (← o) at c.in_ok-write_protocol-in-BadRequest.ensures.whole (c.next_request.ensures.tells (sinks t)))
 
 pub returns-in_err-write_protocol-in-BadRequest-clause-next : goal.returns-in_err-write_protocol-in-BadRequest-clause-next
 returns-in_err-write_protocol-in-BadRequest-clause-next g c = λ aim tells o f e told sinks h.

@@ -7,7 +7,7 @@ use Rattle.curp_show.proofs.playing.write_played.Goals as goal
 pub returns-in-Ok-clause-prefix : goal.returns-in-Ok-clause-prefix
 returns-in-Ok-clause-prefix g c = λ tells.
     played_prefix c.args.text.now (g.K.Sink.held c.args.sink.now) (g.K.Sink.held c.write_script.new.sink) (g.K.Sink.held c.play_text.new.sink)
-    (c.in-Ok.ensures.wrote tells) (c.play_text.ensures.prefix (c.write_script.ensures.tells tells))
+    (c.in-Ok.ensures.whole tells) (c.play_text.ensures.prefix (c.write_script.ensures.tells tells))
 
 pub returns-in-Err-clause-prefix : goal.returns-in-Err-clause-prefix
 returns-in-Err-clause-prefix g c = λ tells.
