@@ -9,11 +9,11 @@ pub use curp_law_runs::{
     completed_is_completable, facts_kept, known_witnesses_differ, only_protocol_one,
     only_sent_to_nodes, pairs_good, silent_while_switching,
 };
-pub use curp_law_steps::{
-    a_step_is_one_event, full_changes_nothing, only_the_named_node_moves, results_have_causes,
-};
 pub use curp_law_steps::trip::{
     one_round_trip, one_round_trip_read, premises_stay, read_trip_can_be_met, rejected_exactly,
     trip_can_be_met,
+};
+pub use curp_law_steps::{
+    a_step_is_one_event, full_changes_nothing, only_the_named_node_moves, results_have_causes,
 };
 pub use curp_recover::laws::recovery_reports;

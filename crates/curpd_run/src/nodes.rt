@@ -10,7 +10,7 @@ use curp_filter::Role;
 use curp_journal::Origin;
 use curp_msg::Header;
 use curp_nodes::{BackupNode, ClientNode, MasterNode, WitnessNode};
-use curp_slots::ShapeError;
+use curp_slots::BadShape;
 use std::alloc::{AllocError, Global};
 
 /// The role of a node by its name.
@@ -68,7 +68,8 @@ pub(crate) fn witness(alloc: Global, header: &Header, number: u32) -> Result<Wit
     }
     match WitnessNode::fresh(alloc, number, header.sets, header.ways) {
         Ok(fresh) => Ok(fresh),
-        Err(ShapeError::BadShape | ShapeError::NoMemory) => Err(AllocError),
+        // The header's shape is in range.
+        Err(BadShape) => Err(AllocError),
     }
 }
 
