@@ -3,7 +3,7 @@
 //!
 //! `Next::opening`, `after_recover`, `after_replace`, `after_migrate`: the numbers are those of the definition, and
 //! there are none where one would rise past its end. `backup_names`, `witness_names`, `opening_config`,
-//! `opening_hashes`, `moved_parts` and each message (`messages`): exact.
+//! `opening_hashes`, `move_range` and each message (`messages`): exact.
 #![tactic(auto)]
 
 pub mod messages;
@@ -16,7 +16,7 @@ mod shape;
 mod work;
 
 pub use migration::Migration;
-pub use moved::moved_parts;
+pub use moved::move_range;
 pub use next::Next;
 pub use opening::{opening_config, opening_hashes, opening_work};
 pub use shape::Shape;

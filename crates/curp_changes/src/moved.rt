@@ -1,90 +1,176 @@
 // The configuration once a range has moved.
-ghost use Rattle.std.specs.Prelude.{◌≡◌, ◌≤◌, ℕ, ◌||◌, map, IfOk};
+ghost use Rattle.std.specs.Prelude.{◌≡◌, ◌≤◌, [], length, map, OnErr, OnOk};
+ghost use Rattle.curp_base.specs.Words.{Each};
+ghost use Rattle.curp_changes.specs.Moving.{HasRoomFor, RoomyEntry};
 ghost use Rattle.curp_model.specs.Manager.{moved_part};
-ghost use Rattle.curp_range.specs.Spans.{SpansAscend, is_in, is_owned, with_range, without};
+ghost use Rattle.curp_range.specs.Spans.{without};
 
 use crate::migration::Migration;
-use curp_base::{Items, NoMemory};
+use curp_base::{Items, NoMemory, Reserved};
 use curp_msg::PartConfig;
 use curp_range::{Ranges, Spans};
 use std::alloc::Global;
+use std::marker::Model;
+use std::mem;
 
-/// The entries once the range of a migration belongs to its target.
-pub fn moved_parts(
+/// Has the range of a migration belong to its target. No span is copied; it takes memory for two more in the entries of source
+/// and target, and while it works for a list of the partitions.
+pub fn move_range(
     alloc: Global,
-    parts: &[PartConfig],
+    parts: &mut Items<PartConfig>,
     migration: &Migration,
-) -> Result<Items<PartConfig>, NoMemory>
-    ensures { IfOk result (λ moved. moved ≡ map (moved_part migration.now) parts.now) }
+) -> Result<(), NoMemory>
+    ensures ok { OnOk result (parts.new ≡ map (moved_part migration.now) parts.old) }
+    ensures err { OnErr result (parts.new ≡ parts.old) }
 {
-    let mut moved = Vec::with_capacity(alloc, parts.len())?;
-    for part in parts {
-        moved.push(moved_part(alloc, part, migration)?)?;
-    }
-    Ok(Items::new(moved))
-}
-
-fn moved_part(
-    alloc: Global,
-    part: &PartConfig,
-    migration: &Migration,
-) -> Result<PartConfig, NoMemory>
-    ensures { IfOk result (λ moved. moved ≡ moved_part migration.now part.now) }
-{
-    let (lo, hi) = (migration.lo, migration.hi);
-    let ranges = if part.part == migration.source {
-        spans_without(alloc, &part.ranges, lo, hi)?
-    } else if part.part == migration.target {
-        spans_with(alloc, &part.ranges, lo, hi)?
-    } else {
-        part.ranges.copy(alloc)?
+    let roomy = Reserved::with_room(alloc, parts.len() as u64)?;
+    let entries = Reserved::with_room(alloc, parts.len() as u64)?;
+    let before = mem::replace(parts, Items::new(Vec::new(alloc)));
+    let (roomy, room) = with_room(alloc, before.into_vec(), roomy, migration);
+    let after = match room {
+        Ok(()) => moved(roomy, entries, migration),
+        Err(_) => as_before(roomy, entries),
     };
-    Ok(PartConfig {
-        part: part.part,
-        epoch: part.epoch,
-        version: part.version,
-        master: part.master,
-        backups: part.backups.copy(alloc)?,
-        witnesses: part.witnesses.copy(alloc)?,
-        ranges,
-    })
+    *parts = Items::new(after);
+    room
 }
 
-#[tactic(auto, using(crate::proofs::SpansMoved::made_with))]
-fn spans_with(alloc: Global, spans: &Spans, lo: u64, hi: u64) -> Result<Spans, NoMemory>
-    requires { lo ≤ hi }
-    ensures { IfOk result (λ with. with ≡ with_range spans.now lo hi) }
-{
-    let ranges = united(alloc, spans.as_slice(), lo, hi)?;
-    Ok(Spans::new(ranges))
+/// An entry, and its ranges as a set of hashes that can be changed, once they were taken out of it.
+#[derive(Drop)]
+struct Roomy {
+    entry: PartConfig,
+    ranges: Option<Ranges>,
 }
 
+impl Model for Roomy {
+    ghost use Rattle.curp_changes.specs.Moving.{RoomyEntry, room_in, with_own};
+
+    ghost Value = { RoomyEntry };
+
+    ghost view = { λ r. record { entry = with_own r.entry r.ranges; spare = room_in r.ranges } };
+}
+
+impl Roomy {
+    // The entry, and whether there was memory for the room that a migration takes in it.
+    fn new(
+        alloc: Global,
+        mut entry: PartConfig,
+        migration: &Migration,
+    ) -> (Roomy, Result<(), NoMemory>)
+        ensures entry { result.0.entry ≡ entry }
+        ensures room { OnOk result.1 (HasRoomFor migration.now result.0) }
+    {
+        if entry.part != migration.source && entry.part != migration.target {
+            return (Roomy::untouched(entry), Ok(()));
+        }
+        let other = match Ranges::new(alloc, migration.lo, migration.hi) {
+            Ok(other) => Spans::new(other),
+            Err(why) => return (Roomy::untouched(entry), Err(why)),
+        };
+        let mut ranges = Ranges::from_spans(mem::replace(&mut entry.ranges, other));
+        let room = ranges.reserve(2);
+        let roomy = Roomy {
+            entry,
+            ranges: Some(ranges),
+        };
+        (roomy, room)
+    }
+
+    fn untouched(entry: PartConfig) -> Roomy
+        ensures { result ≡ record { entry = entry; spare = 0 } }
+    {
+        Roomy {
+            entry,
+            ranges: None,
+        }
+    }
+
+    fn into_entry(self) -> PartConfig
+        ensures { result ≡ self.entry }
+    {
+        let Roomy { mut entry, ranges } = self;
+        if let Some(ranges) = ranges {
+            entry.ranges = Spans::new(ranges);
+        }
+        entry
+    }
+
+    fn moved(self, migration: &Migration) -> PartConfig
+        requires { HasRoomFor migration.now self }
+        ensures { result ≡ moved_part migration.now self.entry }
+    {
+        let Roomy { mut entry, ranges } = self;
+        let Some(mut ranges) = ranges else {
+            return entry;
+        };
+        if entry.part == migration.source {
+            leave(&mut ranges, migration.lo, migration.hi);
+        } else if entry.part == migration.target {
+            ranges.unite(migration.lo, migration.hi);
+        }
+        entry.ranges = Spans::new(ranges);
+        entry
+    }
+}
+
+// Owns the hashes of a range no longer, whatever of it was owned.
 #[tactic(auto, using(crate::proofs::SpansMoved::leaving))]
-fn spans_without(alloc: Global, spans: &Spans, lo: u64, hi: u64) -> Result<Spans, NoMemory>
-    requires { lo ≤ hi }
-    ensures { IfOk result (λ left. left ≡ without spans.now lo hi) }
+fn leave(ranges: &mut Ranges, lo: u64, hi: u64)
+    requires ordered { lo ≤ hi }
+    requires room { 2 ≤ ranges.old.spare }
+    ensures { ranges.new.spans ≡ without ranges.old.spans lo hi }
 {
     // What isn't there can't be taken out, so it is put in before.
-    let mut ranges = united(alloc, spans.as_slice(), lo, hi)?;
+    let _before = ranges.spans();
+    ranges.unite(lo, hi);
     ranges.take_out(lo, hi).unwrap();
-    let _ascending = ranges.spans();
-    Ok(Spans::new(ranges))
+    let _after = ranges.spans();
 }
 
-// The hashes of the spans and those of a range, with room for one span more.
-#[tactic(auto, using(crate::proofs::SpansMoved::united_more))]
-fn united(alloc: Global, spans: &[(u64, u64)], lo: u64, hi: u64) -> Result<Ranges, NoMemory>
-    requires ordered { lo ≤ hi }
-    requires ascend { SpansAscend spans.now }
-    ensures owned { IfOk result (λ r. (h : ℕ) → is_owned r.spans h ≡ (is_owned spans.now h || is_in lo hi h)) }
-    ensures ascend { IfOk result (λ r. SpansAscend r.spans) }
-    ensures room { IfOk result (λ r. 1 ≤ r.spare) }
+// The entries, and whether there was memory for the room that a migration takes.
+fn with_room(
+    alloc: Global,
+    entries: Vec<PartConfig>,
+    mut list: Reserved<Roomy>,
+    migration: &Migration,
+) -> (Vec<Roomy>, Result<(), NoMemory>)
+    requires empty { list.items ≡ [] }
+    requires spare { length entries.items ≤ list.spare }
+    ensures entries { map (λ (e : RoomyEntry). e.entry) result.0.items ≡ entries.items }
+    ensures room { OnOk result.1 (Each (HasRoomFor migration.now) result.0.items) }
 {
-    let mut ranges = Ranges::new(alloc, lo, hi)?;
-    ranges.reserve(spans.len() as u64 + 1)?;
-    for span in spans {
-        ranges.unite(span.0, span.1);
+    let mut room = Ok(());
+    for entry in entries {
+        let (roomy, had) = Roomy::new(alloc, entry, migration);
+        room = room.and(had);
+        list.push(roomy);
     }
-    let _ascending = ranges.spans();
-    Ok(ranges)
+    (list.into_vec(), room)
+}
+
+fn moved(
+    roomy: Vec<Roomy>,
+    mut list: Reserved<PartConfig>,
+    migration: &Migration,
+) -> Vec<PartConfig>
+    requires empty { list.items ≡ [] }
+    requires spare { length roomy.items ≤ list.spare }
+    requires room { Each (HasRoomFor migration.now) roomy.items }
+    ensures { result.items ≡ map (moved_part migration.now) (map (λ (e : RoomyEntry). e.entry) roomy.items) }
+{
+    for entry in roomy {
+        list.push(entry.moved(migration));
+    }
+    list.into_vec()
+}
+
+fn as_before(roomy: Vec<Roomy>, mut list: Reserved<PartConfig>) -> Vec<PartConfig>
+    requires empty { list.items ≡ [] }
+    requires spare { length roomy.items ≤ list.spare }
+    ensures { result.items ≡ map (λ (e : RoomyEntry). e.entry) roomy.items }
+{
+    for entry in roomy {
+        list.push(entry.into_entry());
+    }
+    list.into_vec()
 }

@@ -11,8 +11,8 @@ ghost use Rattle.curp_msg.specs.Moved.{Moves};
 use crate::{Manager, MigrateError};
 use curp_base::NoMemory;
 use curp_changes::messages::{give_message, one, take_message};
-use curp_changes::{Migration, Next, moved_parts};
-use curp_msg::{Config, Done, Parcel, PartConfig};
+use curp_changes::{Migration, Next, move_range};
+use curp_msg::{Done, Parcel, PartConfig};
 
 impl Manager {
     /// The hashes from `lo` to `hi`, both counted, are to move to a partition. One migration is made at a time.
@@ -127,8 +127,8 @@ impl Manager {
         let Some(serial) = self.config.serial.checked_add(1) else {
             return Ok(Done::quiet(self.alloc));
         };
-        let parts = moved_parts(self.alloc, self.config.parts.as_slice(), migration)?;
-        self.config = Config { serial, parts };
+        move_range(self.alloc, &mut self.config.parts, migration)?;
+        self.config.serial = serial;
         self.moving = None;
         Ok(Done::quiet(self.alloc))
     }

@@ -34,6 +34,14 @@ impl Spans {
         }
     }
 
+    // The spans, given back. It takes no memory.
+    pub(crate) fn into_vec(self) -> Vec<(u64, u64)>
+        ensures spans { result.items ≡ self }
+        ensures ascend { SpansAscend self }
+    {
+        self.spans
+    }
+
     pub fn as_slice(&self) -> &[(u64, u64)]
         ensures value { result.now ≡ self.now }
         ensures ascend { SpansAscend self.now }

@@ -2,7 +2,7 @@ ghost use Rattle.std.specs.Prelude.{◌≡◌, ℕ, ◌+◌, ◌≤◌, ◌&&◌
 ghost use Rattle.std.specs.Prelude.{[], ◌∷◌, IfOk, OnOk, OnErr};
 ghost use Rattle.curp_range.specs.Spans.{is_in, is_owned, without, with_range, SpansAscend, Covers, Lacks, Meets};
 
-use crate::spans;
+use crate::{Spans, spans};
 use curp_base::{NoMemory, Reserved};
 use std::alloc::Global;
 use std::marker::Model;
@@ -51,6 +51,15 @@ impl Ranges {
         Ok(Ranges {
             spans: Reserved::from_vec(spans),
         })
+    }
+
+    /// The hashes of these spans. It takes no memory.
+    pub fn from_spans(spans: Spans) -> Ranges
+        ensures { result.spans ≡ spans }
+    {
+        Ranges {
+            spans: Reserved::from_vec(spans.into_vec()),
+        }
     }
 
     /// Whether the hash is owned.
