@@ -36,8 +36,6 @@ COUNTED = ("calls", "bytes", "reads", "writes")
 SHORT = ["puts", "one message again and again", "`resp`", "a journal that is opened"]
 # Rows that grow faster today, with the most that they may: calls, bytes, reads, writes.
 FOUND = {
-    "migrations": (MOST, 20, MOST, MOST),
-    "`resp --every 20`": (25, 52, MOST, MOST),
     "`manage`, crashes behind each order": (60, 46, MOST, MOST),
 }
 
@@ -277,6 +275,16 @@ def requests(size):
     return "".join(texts).encode()
 
 
+def recovered(size):
+    """Requests, with a recovery behind each twenty, whose logs have so many entries all together: each other request is an
+    entry, and a recovery has all entries before it."""
+    recoveries = 0
+    while size > 0:
+        recoveries += 1
+        size -= 10 * recoveries
+    return requests(20 * recoveries)
+
+
 def manager_orders(size, between=b""):
     """Expiries of a client, with other lines behind each."""
     header = b'{"clients":1,"f":1,"fast":true,"parts":1,"protocol":1,"sets":16,"ways":4}\n'
@@ -386,7 +394,7 @@ def rows_of(bench):
         "`check`": (1000, told(history, "check")),
         "`resp`": (500, told(requests, "resp")),
         "`resp --script`": (500, told(requests, "resp", "--script")),
-        "`resp --every 20`": (250, told(requests, "resp", "--every", "20")),
+        "`resp --every 20`, by the entries that are recovered": (3250, told(recovered, "resp", "--every", "20")),
         "`manage`": (1000, told(manager_orders, "manage")),
         "`manage`, crashes behind each order": (100, told(lambda size: manager_orders(size, CRASH + EXPIRE), "manage")),
         "`curpd node`, inputs that come together": (8000, bench.fetches),

@@ -4,6 +4,8 @@ use Rattle.std.proofs.Math.Seq.{take-add}
 use Rattle.std.proofs.lemmas.Bool.{cases_lt}
 use Rattle.curp_base.proofs.Lists.{take_one}
 use Rattle.curp_base.specs.Words.{At}
+use Rattle.curp_cmd.specs.declared.entry.Entry.{Entry}
+use Rattle.curp_entries.specs.EntryList.{AreLast}
 use Rattle.std.proofs.lemmas.List.{append-nil, length-drop, take-append-drop, take_all}
 
 pub take_two : {A : Type 0} (n : ℕ) (xs ys : List A) → take n (xs ++ ys) ≡ take n xs ++ take (n - length xs) ys
@@ -52,6 +54,30 @@ run_more n xs old prefix after before is =
 pub moved : {A : Type 0} (n : ℕ) (prefix tail now left : List A) → now ≡ prefix ++ take n tail → left ≡ drop n tail → now ++ left ≡ prefix ++ tail
 moved n prefix tail now left a b =
     (λ i. a i ++ b i) ∙ append_assoc prefix (take n tail) (drop n tail) ∙ ap (λ (l : List _). prefix ++ l) (take-append-drop n tail)
+
+-- ---- the last of a list
+
+pub last_dropped : (n : ℕ) (entries last : List Entry) → last ≡ drop n entries → AreLast last entries
+last_dropped n entries last is = record { others = take n entries; behind = sym (take-append-drop n entries) ∙ ap (λ (l : List Entry). take n entries ++ l) (sym is) }
+
+pub last_none : (entries last : List Entry) → last ≡ [] → AreLast last entries
+last_none entries last is = record { others = entries; behind = sym (append-nil entries) ∙ ap (λ (l : List Entry). entries ++ l) (sym is) }
+
+-- the last of what stands behind others
+pub last_of_more : (last old more : List Entry) → AreLast last more → AreLast last (old ++ more)
+last_of_more last old more of_these =
+    record { others = old ++ of_these.others; behind = ap (λ (l : List Entry). old ++ l) of_these.behind ∙ sym (append_assoc old of_these.others last) }
+
+-- the last of the last ones, and of more behind them
+pub last_behind : (last recent old more : List Entry) → AreLast last (recent ++ more) → AreLast recent old → AreLast last (old ++ more)
+last_behind last recent old more of_these of_all = record {
+  others = of_all.others ++ of_these.others;
+  behind =
+      ap (λ (l : List Entry). l ++ more) of_all.behind
+      ∙ append_assoc of_all.others recent more
+      ∙ ap (λ (l : List Entry). of_all.others ++ l) of_these.behind
+      ∙ sym (append_assoc of_all.others of_these.others last);
+}
 
 -- ---- one more
 

@@ -5,8 +5,8 @@ ghost use Rattle.curp_entries.specs.Requests.{request_at};
 ghost use Rattle.curp_items.specs.Encoding.{request_of};
 
 use crate::prefix::Prefix;
-use crate::runs::{last_run, leave, push_runs};
-use curp_base::{NoMemory, copies_of, past};
+use crate::runs::{add_copies, keep_recent, leave, push_runs};
+use curp_base::{NoMemory, past};
 use curp_cmd::{Entry, Request};
 use std::alloc::{AllocError, Global};
 use std::marker::Model;
@@ -80,7 +80,7 @@ impl PackedEntries {
     {
         let (count, packed) = push_runs(&mut self.prefix, &self.tail);
         if count > 0 {
-            self.recent = last_run(self.alloc, &self.tail[..count]);
+            keep_recent(self.alloc, &mut self.recent, &self.tail[..count]);
             leave(&mut self.tail, count);
         }
         packed
@@ -103,8 +103,7 @@ impl PackedEntries {
         ensures packed { self.new.packed ≡ self.old.packed }
     {
         self.hold(entries.len() as u64)?;
-        let mut copies = copies_of(self.alloc, entries)?;
-        self.tail.append(&mut copies)
+        add_copies(self.alloc, &mut self.tail, entries)
     }
 
     pub fn len(&self) -> u64
@@ -172,10 +171,8 @@ impl PackedEntries {
         let tail = part(&self.tail, packed, start, end);
         let spare = recent.len().saturating_add(tail.len());
         let mut entries = self.prefix.between(start, end.min(first), spare)?;
-        let mut copies = copies_of(self.alloc, recent)?;
-        entries.append(&mut copies)?;
-        let mut copies = copies_of(self.alloc, tail)?;
-        entries.append(&mut copies)?;
+        add_copies(self.alloc, &mut entries, recent)?;
+        add_copies(self.alloc, &mut entries, tail)?;
         Ok(entries)
     }
 

@@ -1,5 +1,5 @@
 //! What is packed of a tail of entries, and when.
-ghost use Rattle.std.specs.Prelude.{◌≡◌, ◌↔◌, ◌≤◌, ◌++◌, IsTrue, take, drop, length, vec_capacity, IfNone, IfSome, OnOk};
+ghost use Rattle.std.specs.Prelude.{◌≡◌, ◌↔◌, ◌≤◌, ◌++◌, IsTrue, take, drop, length, vec_capacity, IfNone, IfSome, OnErr, OnOk};
 ghost use Rattle.curp_base.specs.Words.{Each};
 ghost use Rattle.curp_cmd.specs.declared.entry.Entry.{Entry};
 ghost use Rattle.curp_items.specs.Encoding.{HasEncoding};
@@ -56,15 +56,50 @@ fn are_encoded(entries: &[Entry]) -> bool
     entries.iter().all(has_encoding)
 }
 
-/// Copies of the last run of entries, or of none where memory is wanting.
-pub(crate) fn last_run(alloc: Global, entries: &[Entry]) -> Vec<Entry>
+/// How many of the packed entries are kept as they are too, at most: what is copied of them shares their requests, and what is
+/// copied of older ones is decoded anew (this project's own choice).
+const RECENT: usize = 16 * RUN;
+
+/// Keeps copies of the last of the entries that were kept and of those that were packed behind them, or of none where memory
+/// is wanting.
+pub(crate) fn keep_recent(alloc: Global, recent: &mut Vec<Entry>, packed: &[Entry])
+    ensures { AreLast recent.new.items (recent.old.items ++ packed.now) }
+{
+    if packed.len() >= RECENT {
+        *recent = last_of(alloc, packed);
+        return;
+    }
+    match add_copies(alloc, recent, packed) {
+        Ok(()) => {
+            let others = recent.len().saturating_sub(RECENT);
+            leave(recent, others);
+        }
+        Err(_) => *recent = Vec::new(alloc),
+    }
+}
+
+/// Copies of the last entries, as many as are kept, or of none where memory is wanting.
+fn last_of(alloc: Global, entries: &[Entry]) -> Vec<Entry>
     ensures { AreLast result.items entries.now }
 {
-    let others = entries.len().saturating_sub(RUN);
+    let others = entries.len().saturating_sub(RECENT);
     match copies_of(alloc, past(entries, others as u64)) {
         Ok(last) => last,
         Err(_) => Vec::new(alloc),
     }
+}
+
+/// Puts copies of entries behind others.
+pub(crate) fn add_copies(
+    alloc: Global,
+    to: &mut Vec<Entry>,
+    entries: &[Entry],
+) -> Result<(), NoMemory>
+    ensures ok { OnOk result (to.new.items ≡ to.old.items ++ entries.now) }
+    ensures err { OnErr result (to.new.items ≡ to.old.items) }
+{
+    let mut copies = copies_of(alloc, entries)?;
+    to.append(&mut copies)
 }
 
 /// The tail without its oldest entries, so many of them.

@@ -21,18 +21,18 @@ returns c =
     ∙ ap (λ (l : List Entry). take (min end (length older) - start) (drop start l)) both
     ∙ between_prefix start end older recent
     in
-    let last : c.in_ok-copies.copies.items ≡ take ((end - length older) - (start - length older)) (drop (start - length older) recent) =
-    c.in_ok-copies.ensures ∙ c.part-recent.ensures
+    let last : c.part-recent.result.now ≡ take ((end - length older) - (start - length older)) (drop (start - length older) recent) =
+    c.part-recent.ensures
     ∙ ap (λ (l : List Entry). take ((end - (c.len-packed.result - c.len.result)) - (start - (c.len-packed.result - c.len.result))) (drop (start - (c.len-packed.result - c.len.result)) l)) c.deref.ensures.value
     ∙ ap (λ (n : ℕ). take ((end - n) - (start - n)) (drop (start - n) recent)) first
     in
-    let behind : c.in_ok-copies-2.copies.items ≡ take ((end - length prefix) - (start - length prefix)) (drop (start - length prefix) tail) =
-    c.in_ok-copies-2.ensures ∙ c.part-tail.ensures
+    let behind : c.part-tail.result.now ≡ take ((end - length prefix) - (start - length prefix)) (drop (start - length prefix) tail) =
+    c.part-tail.ensures
     ∙ ap (λ (l : List Entry). take ((end - c.len-packed.result) - (start - c.len-packed.result)) (drop (start - c.len-packed.result) l)) c.deref-2.ensures.value
     ∙ ap (λ (n : ℕ). take ((end - n) - (start - n)) (drop (start - n) tail)) c.len-packed.ensures.value
     in
-    c.in_ok-append-2.ensures.items
-    ∙ (λ i. (c.in_ok-append.ensures.items ∙ (λ j. before j ++ last j)) i ++ behind i)
+    c.in_ok-add_copies-2.ensures.ok
+    ∙ (λ i. (c.in_ok-add_copies.ensures.ok ∙ (λ j. before j ++ last j)) i ++ behind i)
     ∙ ap (λ (l : List Entry). l ++ take ((end - length prefix) - (start - length prefix)) (drop (start - length prefix) tail))
     (sym (between_two start end older recent) ∙ ap (λ (l : List Entry). take (end - start) (drop start l)) (sym both))
     ∙ sym (between_two start end prefix tail)

@@ -1,8 +1,9 @@
-use Rattle.std.proofs.Common.{◌≡◌, ◌<◌, ◌^◌, ◌++◌, ◌∙◌, ℕ, List, OnOk, drop, length, take, ap, sym, subst, append_assoc, arith}
+use Rattle.std.proofs.Common.{◌≡◌, ◌<◌, ◌^◌, ◌++◌, ◌∙◌, ℕ, List, OnOk, drop, length, take, ap, sym, subst, arith}
 use Rattle.std.proofs.Math.Seq.{drop-append_seam}
 use Rattle.curp_cmd.specs.declared.entry.Entry.{Entry}
+use Rattle.curp_entries.specs.EntryList.{AreLast}
 use Rattle.curp_entries.specs.Packed.{IsShortTail}
-use Rattle.curp_entries.proofs.Parts.{moved}
+use Rattle.curp_entries.proofs.Parts.{last_behind, moved}
 use Rattle.curp_entries.proofs.entries.PackedEntries.pack.Goals as goal
 
 pub invariant_of-self : goal.invariant_of-self
@@ -10,19 +11,14 @@ invariant_of-self c =
     let before = c.self.inside.prefix in
     let tail = c.self.inside.tail.items in
     let count = c.push_runs-count.result.0 in
-    let others = c.last_run.ensures.others in
     let prefix : c.push_runs-count.new.prefix ≡ before ++ take count tail =
     c.push_runs-count.ensures.prefix ∙ ap (λ (l : List Entry). before ++ take count l) c.deref.ensures.value in
     let same : c.push_runs-count.new.prefix ++ c.leave.new.tail.items ≡ before ++ tail =
     moved count before tail c.push_runs-count.new.prefix c.leave.new.tail.items prefix c.leave.ensures.items in
-    let last : take count tail ≡ others ++ c.last_run.result.items =
-    ap (λ (l : List Entry). take count l) (sym c.deref-then-count-gt0.ensures.value) ∙ c.last_run.ensures.behind in
+    let last = subst (λ (l : List Entry). AreLast c.keep_recent.new.recent.items (c.self.inside.recent.items ++ take count l)) c.deref-then-count-gt0.ensures.value c.keep_recent.ensures in
     record {
       few = subst (λ (l : List Entry). length l < 2 ^ 63) (sym same) c.self.invariant.few;
-      last = record {
-        others = before ++ others;
-        behind = prefix ∙ ap (λ (l : List Entry). before ++ l) last ∙ sym (append_assoc before others c.last_run.result.items);
-      };
+      last = subst (AreLast c.keep_recent.new.recent.items) (sym prefix) (last_behind _ _ before _ last c.self.invariant.last);
     }
 
 pub returns-then-count-gt0-clause-short : goal.returns-then-count-gt0-clause-short
