@@ -6,7 +6,6 @@ ghost use Rattle.curp_msg.specs.Moved.{says, says_each};
 
 use curp_base::{Items, NoMemory, Shared, copies_of};
 use curp_cmd::{Entry, NodeId, Request, RequestId};
-use curp_log::Log;
 use curp_msg::{Append, Body, Message, Recover, Recovered, Refusal, Refuse};
 use std::alloc::Global;
 
@@ -101,26 +100,33 @@ pub fn appends(
     number: u32,
     epoch: u32,
     round: u64,
-    log: &Log,
+    whole: &[Entry],
     backups: &[NodeId],
 ) -> Result<Vec<Message>, NoMemory>
     ensures { IfOk result (λ messages. messages.items ≡ says_each (master_node number) backups.now
-        (Body.Append (record { epoch = epoch; base = 0; round = round; entries = log.now.entries }))) }
+        (Body.Append (record { epoch = epoch; base = 0; round = round; entries = whole.now }))) }
 {
-    let whole = log.suffix(0)?;
     let mut messages = Vec::with_capacity(alloc, backups.len())?;
     for backup in backups {
-        let entries = Items::new(copies_of(alloc, &whole)?);
-        messages.push(Message {
-            from: NodeId::master(number),
-            to: *backup,
-            body: Body::Append(Append {
-                epoch,
-                base: 0,
-                round,
-                entries,
-            }),
-        })?;
+        let entries = copies_of(alloc, whole)?;
+        messages.push(append(number, *backup, epoch, round, entries))?;
     }
     Ok(messages)
+}
+
+/// The whole log to a backup.
+fn append(number: u32, backup: NodeId, epoch: u32, round: u64, entries: Vec<Entry>) -> Message
+    ensures { result ≡ says (master_node number) backup
+        (Body.Append (record { epoch = epoch; base = 0; round = round; entries = entries.items })) }
+{
+    Message {
+        from: NodeId::master(number),
+        to: backup,
+        body: Body::Append(Append {
+            epoch,
+            base: 0,
+            round,
+            entries: Items::new(entries),
+        }),
+    }
 }

@@ -12,7 +12,7 @@ ghost use Rattle.curp_recover.specs.Stage.{IsStage, phase_of};
 ghost use Rattle.curp_recover.specs.Answers.{finished_log, phase_name, replayed_in, round_in};
 ghost use Rattle.curp_recover.specs.Heard.{heard, is_serving, unadopted};
 
-use crate::replay::replayed;
+use crate::replay::{replayed, with_replayed};
 use crate::stage::{Awaited, RecoveryStage, ReplayedLog, awaited_after};
 use crate::turned::turned_away;
 use crate::{Phase, RecoveryError, messages};
@@ -383,6 +383,7 @@ impl Recovery {
     }
 
     // What is there once the log and the requests are, and the appends of the first round.
+    #[tactic(auto, using(crate::proofs::Behind::replayed_behind))]
     fn storing(
         &self,
         entries: &[Entry],
@@ -398,7 +399,8 @@ impl Recovery {
         let order = &self.order;
         let log = replayed(self.alloc, order.lo, order.hi, entries, requests)?;
         let backups = order.backups.as_slice();
-        let sent = messages::appends(self.alloc, self.number, order.epoch, 1, &log, backups)?;
+        let whole = with_replayed(self.alloc, entries, &log)?;
+        let sent = messages::appends(self.alloc, self.number, order.epoch, 1, &whole, backups)?;
         let replayed = ReplayedLog {
             log,
             cut: entries.len() as u64,

@@ -1,8 +1,8 @@
-ghost use Rattle.std.specs.Prelude.{◌≡◌, ◌≤◌, ◌++◌, ◌∷◌, [], true, IfOk, OnOk};
+ghost use Rattle.std.specs.Prelude.{◌≡◌, ◌≤◌, ◌++◌, ◌∷◌, [], true, drop, length, IfOk, OnOk};
 ghost use Rattle.curp_model.specs.Log.{fits_at, is_log, meaning};
 ghost use Rattle.curp_model.specs.Recovery.{replay};
 
-use curp_base::{NoMemory, Shared};
+use curp_base::{NoMemory, Shared, copies_of};
 use curp_cmd::{Entry, Request, room};
 use curp_log::Log;
 use curp_model::Check;
@@ -83,4 +83,15 @@ fn replay(log: &mut Log, requests: &[Shared<Request>]) -> Result<(), NoMemory>
         }
     }
     Ok(())
+}
+
+/// The entries of a log and what was replayed behind them. It shares the requests of these entries, where a copy of the oldest
+/// entries of the log itself would be decoded anew.
+pub fn with_replayed(alloc: Global, entries: &[Entry], log: &Log) -> Result<Vec<Entry>, NoMemory>
+    ensures { IfOk result (λ whole. whole.items ≡ entries.now ++ drop (length entries.now) log.now.entries) }
+{
+    let mut whole = copies_of(alloc, entries)?;
+    let mut replayed = log.suffix(entries.len() as u64)?;
+    whole.append(&mut replayed)?;
+    Ok(whole)
 }

@@ -141,7 +141,8 @@ impl ReplayedLog {
         }
         let round = self.round + 1;
         let left = self.incomplete(alloc, order.backups.as_slice())?;
-        let sent = messages::appends(alloc, number, order.epoch, round, &self.log, &left)?;
+        let whole = self.log.suffix(0)?;
+        let sent = messages::appends(alloc, number, order.epoch, round, &whole, &left)?;
         self.round = round;
         Ok(sent)
     }
