@@ -1,3 +1,4 @@
+pub mod Begun
 pub mod Collections
 pub mod Ends
 pub mod KeptUp

@@ -1,13 +1,9 @@
 -- What is answered as a master settles.
-use Rattle.std.proofs.Common.{◌≡◌, ℕ, ◌==◌, if◌then◌else◌, ◌≤◌, Bool, true, false, List, [], ◌∷◌, ◌++◌, map, flat_map, filter, None, not, nat_lt, refl, ap, sym, ◌∙◌, append_assoc, subst, Option, Some, arith}
+use Rattle.std.proofs.Common.{◌≡◌, ℕ, ◌==◌, if◌then◌else◌, Bool, true, false, List, ◌++◌, map, flat_map, filter, None, not, nat_lt, refl, ap, sym, ◌∙◌, append_assoc, subst, Option, Some}
 use Rattle.std.proofs.lemmas.Bool.{eqb-true, eq-eqb}
-use Rattle.curp_cmd.specs.declared.node.NodeId.{NodeId}
 use Rattle.curp_msg.specs.declared.message.Message.{Message}
-use Rattle.curp_model.specs.Master.{Acknowledged, Captured, MasterState, Phase, Open, Switching, Switch, adopted_in, all_have, between, unless_it_ends, from_backup, least, moved_entry, raised, settle, synced, synced_replies, value_of}
-use Rattle.curp_cmd.specs.Node.{same_node}
-use Rattle.curp_cmd.proofs.Nodes.{same_node-true}
+use Rattle.curp_model.specs.Master.{Captured, MasterState, Phase, Open, Switching, Switch, adopted_in, all_have, between, unless_it_ends, moved_entry, settle, synced, synced_replies, value_of}
 use Rattle.curp_msg.specs.Moved.{Moved, Makes, Node}
-use Rattle.curp_rounds.specs.Backups.{stored_by_all}
 use Rattle.curp_master.specs.Settling.{listing}
 use Rattle.curp_master.specs.Switching.{IsSettledNext, next_lists, taken_up, taken_up_in}
 use Rattle.curp_master.specs.declared.switching.Settled.{Settled}

@@ -1,5 +1,4 @@
 -- What an input does to a serving master.
-use Rattle.curp_msg.specs.declared.machine.Input.TheVariants as input
 use Rattle.curp_model.specs.Master.{MasterState, unless_it_ends}
 use Rattle.curp_msg.specs.Moved.{Moved, Node, numbered_move}
 

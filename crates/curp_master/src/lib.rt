@@ -8,7 +8,7 @@
 //!
 //! - By its duties: `updates`, `reads`, `rounds`, `settling` (what backups answer), `collecting` and `suspects` (what
 //!   witnesses may drop, and what they still hold), `switching` (new lists), `moving` (ranges that come and go, clients
-//!   that are gone).
+//!   that are gone). `room` takes the memory of what comes in.
 //! - A read waits with the value of its arrival, and is answered once each backup of the list has acknowledged the
 //!   log's length of then and the round that was begun for it. All that a read costs is that round: what a backup answers
 //!   looks at those alone that are answered by it. One that asks for an answer at once gets it where no entry that isn't
@@ -22,6 +22,7 @@ mod master;
 mod moving;
 mod reads;
 mod replies;
+mod room;
 mod round;
 mod rounds;
 mod settling;

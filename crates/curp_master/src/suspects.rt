@@ -5,6 +5,7 @@ ghost use Rattle.curp_master.specs.Built.{move_of};
 ghost use Rattle.curp_master_log.specs.Suspects.{news};
 
 use crate::Master;
+use crate::room::make_room;
 use curp_base::{NoMemory, Shared, copies_of};
 use curp_cmd::Request;
 use curp_master_log::suspects::{news, treat_each};
@@ -53,8 +54,8 @@ impl Master {
             return Err(AllocError);
         };
         let shared = copies_of(self.alloc, suspects)?;
-        self.queue.reserve(shared.len() as u64)?;
-        self.master_log.reserve(units)?;
+        let ids = shared.len() as u64;
+        make_room(&mut self.queue, ids, &mut self.master_log, units)?;
         treat_each(&mut self.master_log, &mut self.queue, shared);
         Ok(())
     }

@@ -10,6 +10,7 @@ ghost use Rattle.curp_master.specs.Rounds.{IsNextRound};
 ghost use Rattle.curp_master.specs.Updates.{new_verdict, pushes_held};
 ghost use Rattle.curp_master_log.specs.MasterLog.{CanPush};
 
+use crate::room::{make_room, push_held};
 use crate::{Master, Round};
 use curp_base::{NoMemory, Shared};
 use curp_cmd::{Answer, Request};
@@ -127,8 +128,7 @@ impl Master {
         let shared = request.share()?;
         let unanswered = self.reply_to(self.version, false, request.id, &Answer::Done);
         let (mut reply, mut sent) = reply_room(self.alloc, unanswered)?;
-        self.queue.reserve(1)?;
-        self.master_log.reserve(op_room(request))?;
+        make_room(&mut self.queue, 1, &mut self.master_log, op_room(request))?;
         let answer = self.master_log.push_op(shared, true);
         self.queue.add(request.id, self.master_log.log().len());
         reply.set(self.reply_to(self.version, false, request.id, &answer));
@@ -142,17 +142,16 @@ impl Master {
         ensures moves { Moves self.old self.new result
             (move_of self.old (pushes_held self.old.number self.old.state request.now is_free)) }
     {
-        self.held.reserve(1)?;
-        self.queue.reserve(1)?;
-        self.master_log.reserve(op_room(request))?;
         let Some(round) = self.round_with_op(request)? else {
             return Ok(Done::quiet(self.alloc));
         };
-        let entry = op_of(request.share()?);
-        let index = self.master_log.log().len();
-        self.master_log.push(entry, is_free);
-        self.queue.add(request.id, index + 1);
-        self.held.insert(index);
+        push_held(
+            &mut self.held,
+            &mut self.queue,
+            &mut self.master_log,
+            request,
+            is_free,
+        )?;
         self.round = round.number;
         Ok(Done::sends(round.appends))
     }

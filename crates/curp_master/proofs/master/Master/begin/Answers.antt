@@ -1,8 +1,9 @@
 use Rattle.std.proofs.Common.{◌≡◌, List, [], length, ap, ◌∙◌}
 use Rattle.curp_model.specs.Master.{Acknowledged, Open}
-use Rattle.curp_master_log.specs.MasterLog.{kept_log_of}
-use Rattle.curp_rounds.specs.Backups.{all_at, all_set}
+use Rattle.curp_master_log.specs.MasterLog.{KeptLog, kept_log_of}
+use Rattle.curp_rounds.specs.Backups.{all_at, all_set, stored_by_all}
 use Rattle.curp_rounds.proofs.Acks.{set_at}
+use Rattle.curp_master.proofs.KeptUp.{from_start}
 use Rattle.curp_master.proofs.master.Master.begin.Goals as goal
 
 pub returns-clause-state : goal.returns-clause-state
@@ -36,3 +37,9 @@ returns-clause-state c =
       queue = c.new-4.ensures i;
       phase = Open;
     }
+
+pub invariant_of-result : goal.invariant_of-result
+invariant_of-result c =
+    from_start
+    (ap (λ (j : KeptLog). j.synced) c.new.ensures ∙ c.least_length-synced.ensures ∙ (λ i. stored_by_all (c.so_far.ensures i) (c.deref.ensures.value i)))
+    c.new-2.ensures.last

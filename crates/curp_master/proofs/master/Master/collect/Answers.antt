@@ -8,13 +8,14 @@ use Rattle.curp_msg.specs.Moved.{Node, says_each}
 use Rattle.curp_msg.specs.declared.body.Body.TheVariants.{Gc}
 use Rattle.curp_master.proofs.Collections.{collected_moves}
 use Rattle.curp_rounds.proofs.Fresh.{open_is}
+use Rattle.curp_master.proofs.KeptUp.{synced_of}
 use Rattle.curp_master.proofs.master.Master.collect.Goals as goal
 
 pub returns : goal.returns
 returns c =
     let its = c.self.view_is in
     let opened = ap (λ (m : Node MasterState). m.state.phase) (sym its) ∙ open_is _ c.is_open.result c.is_open.ensures c.if-not-is_open.false in
-    let next = c.synced-synced.ensures ∙ c.self.invariant.synced ∙ ap (λ (m : Node MasterState). synced m.state) its in
+    let next = c.synced-synced.ensures ∙ synced_of c.self.invariant ∙ ap (λ (m : Node MasterState). synced m.state) its in
     let queue = c.leave.ensures.waiting ∙ ap (λ (m : Node MasterState). filter (λ (q : Queued). not (has_come c.synced-synced.result q)) m.state.queue) its in
     let ids = c.deref-2.ensures.value ∙ c.in_ok-ids.ensures ∙ ap (λ (m : Node MasterState). map (λ (q : Queued). q.id) (filter (has_come c.synced-synced.result) m.state.queue)) its in
     let sent =

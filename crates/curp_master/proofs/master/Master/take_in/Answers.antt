@@ -12,21 +12,20 @@ pub returns-clause-state : goal.returns-clause-state
 returns-clause-state c =
     let m : MasterState = (the_view c.self.inside).state in
     sym (c.treat_each.ensures.treated m)
-    ∙ (λ i. treat (keeping m (c.in_ok-reserve-2.ensures.kept i) (c.in_ok-reserve.ensures.waiting i)) (c.in_ok-shared.ensures i))
+    ∙ (λ i. treat (keeping m (c.in_ok-make_room.ensures.kept i) (c.in_ok-make_room.ensures.waiting i)) (c.in_ok-shared.ensures i))
     ∙ ap (λ (node : Node MasterState). treat node.state c.args.suspects.now) c.self.view_is
 
 -- what is brought makes the log longer
 pub invariant_of-self-2 : goal.invariant_of-self-2
 invariant_of-self-2 c =
     let m : MasterState = (the_view c.self.inside).state in
-    let before : KeptLog = c.reserve-2.new.self.kept in
+    let before : KeptLog = c.make_room.new.master_log.kept in
     let after : KeptLog = c.treat_each.new.master_log.kept in
     let rs = c.in_ok-shared.shared.items in
-    let same = ap (λ (j : KeptLog). length j.entries) c.in_ok-reserve-2.ensures.kept in
+    let same = ap (λ (j : KeptLog). length j.entries) c.in_ok-make_room.ensures.kept in
     let long : length after.entries ≡ length before.entries + length (news before.lo before.hi before.entries rs) =
-    ap (λ (k : MasterState). length k.log) (sym (c.treat_each.ensures.treated m)) ∙ log_length (keeping m before c.reserve.new.self.waiting) rs
+    ap (λ (k : MasterState). length k.log) (sym (c.treat_each.ensures.treated m)) ∙ log_length (keeping m before c.make_room.new.queue.waiting) rs
     in
-    grown c.self.inside.master_log.kept after c.self.inside.acknowledged c.self.inside.backups.items c.self.inside.captures.last c.self.inside.round
-    c.self.invariant
-    (c.treat_each.ensures.synced ∙ ap (λ (j : KeptLog). j.synced) c.in_ok-reserve-2.ensures.kept)
+    grown c.self.invariant
+    (c.treat_each.ensures.synced ∙ ap (λ (j : KeptLog). j.synced) c.in_ok-make_room.ensures.kept)
     (omega (arith, same, long))

@@ -72,6 +72,4 @@ invariant_of-self c =
     λ i. record { number = c.in_ok-take_in-2.ensures.number i; state = c.in_ok-take_in-2.ensures.state i }
     in
     let at : c.self-2.inside.round ≡ m.round = ap (λ (n : Node MasterState). n.state.round) (c.self-2.view_is ∙ after) ∙ (kept_in m rs).0 in
-    later c.self-2.inside.master_log.kept c.self-2.inside.acknowledged c.self-2.inside.backups.items c.self-2.inside.captures.last c.self-2.inside.round
-    c.in-Some.round.number c.self-2.invariant
-    (next.next ∙ ap (λ (k : ℕ). k + 1) (sym at))
+    later c.self-2.invariant (next.next ∙ ap (λ (k : ℕ). k + 1) (sym at))
