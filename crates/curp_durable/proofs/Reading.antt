@@ -13,6 +13,9 @@ pub records-push : (bs : List Batch) (b : Batch) → records (bs ++ b ∷ []) �
 records-push [] b = ap (λ (l : List ℕ). 1 ∷ l) (append-nil (framed b))
 records-push (x ∷ bs) b = ap (λ (l : List ℕ). 1 ∷ (framed x ++ l)) (records-push bs b) ∙ ap (λ (l : List ℕ). 1 ∷ l) (sym (append_assoc (framed x) (records bs) (1 ∷ framed b)))
 
+pub records-grown : (title : List ℕ) (bs : List Batch) (b : Batch) → title ++ records (bs ++ b ∷ []) ≡ (title ++ records bs) ++ 1 ∷ framed b
+records-grown title bs b = ap (λ (l : List ℕ). title ++ l) (records-push bs b) ∙ sym (append_assoc title (records bs) (1 ∷ framed b))
+
 pub encoded-push : (bs : List Batch) (b : Batch) → Each HasEncoding bs → HasEncoding b → Each HasEncoding (bs ++ b ∷ [])
 encoded-push [] b all has = (has, tt)
 encoded-push (x ∷ bs) b all has = (all.0, encoded-push bs b all.1 has)
@@ -60,7 +63,7 @@ module _ (content title : List ℕ) (batches : List Batch) (commit : ℕ) (reads
 
   module _ (b : Batch) (has : HasEncoding b) where
     grown : title ++ records (batches ++ b ∷ []) ≡ prefix ++ 1 ∷ framed b
-    grown = ap (λ (l : List ℕ). title ++ l) (records-push batches b) ∙ sym (append_assoc title (records batches) (1 ∷ framed b))
+    grown = records-grown title batches b
 
     -- the commit byte is open, and the whole record stands behind it
     pub now_open : (c tail : List ℕ) → take commit c ≡ take commit content → drop commit c ≡ 1 ∷ ((framed b ++ 0 ∷ []) ++ tail) → ReadsJournal c title (batches ++ b ∷ []) (commit + length (framed b ++ 0 ∷ []))

@@ -2,12 +2,13 @@
 use Rattle.std.specs.Prelude.{◌≡◌, ℕ, ◌+◌, ◌≤◌, List, [], ◌∷◌, ◌++◌, length, refl}
 use Rattle.std.proofs.Common.{inl, inr, sym, ◌∙◌, ap, subst, arith}
 use Rattle.std.proofs.lemmas.List.{append-nil, drop_all}
+use Rattle.curp_base.specs.Words.{all_of}
 use Rattle.curp_disk.specs.Disk.{LeavesOnly, Only, over}
 use Rattle.curp_journal.specs.declared.arrived.Arrived.{Arrived}
 use Rattle.curp_msg.specs.Moved.{Moved}
 use Rattle.curp_msg.specs.declared.machine.Input.{Input}
 use Rattle.curp_durable.specs.Appending.{ShutOrStaged}
-use Rattle.curp_durable.specs.Journal.{HasEncoding, HoldsJournal, HoldsUpTo, IsBeforeOrAfter, IsSettled, ReadsJournal, framed}
+use Rattle.curp_durable.specs.Journal.{HasEncoding, HasSettled, HoldsJournal, HoldsUpTo, IsBeforeOrAfter, IsSettled, ReadsJournal, framed}
 use Rattle.curp_durable.specs.Opening.{IsOpened}
 use Rattle.curp_durable.specs.Standing.{Standing, after, begun, taken}
 use Rattle.curp_durable.proofs.Going.{weaker}
@@ -70,6 +71,12 @@ module _ {N D : Type 0} (machine : N → Input → Moved N) (seen : D → List �
   opened_settled content disk stand commit title opening inputs same o only h =
       let all = opened_so content title machine opening commit stand inputs o h in
       record { batches = o.batches; all = all; reads = subst (λ (l : List ℕ). ReadsJournal l title o.batches commit) (sym same) o.reads; stand_is = o.stand_is ∙ ap (after machine (begun opening)) all; durable = only }
+
+  -- of some inputs
+  pub has_settled : (content : List ℕ) (disk : D) (stand : Standing N) (commit : ℕ) (title : List ℕ) (opening : N) → seen disk ≡ content → IsOpened machine content title opening commit stand → Only (seen disk) (may_leave disk) → HasSettled machine seen may_leave disk stand commit
+  has_settled content disk stand commit title opening same o only =
+      let holds : HoldsJournal content title (all_of o.batches) = record { batches = o.batches; commit = commit; all = refl; reads = o.reads } in
+      (title, opening, all_of o.batches, opened_settled content disk stand commit title opening (all_of o.batches) same o only holds)
 
 -- a journal with no input was written on a disk that had no more bytes
 pub fresh : (before now_there : List ℕ) (bytes title : List ℕ) → length before ≤ length bytes → bytes ≡ title ++ 0 ∷ [] → now_there ≡ over before 0 bytes → HoldsUpTo now_there title [] (length title)

@@ -17,12 +17,13 @@ use Rattle.curp_journal.specs.declared.arrived.Arrived.{Arrived}
 use Rattle.curp_msg.specs.Moved.{Moved}
 use Rattle.curp_msg.specs.declared.machine.Input.{Input}
 use Rattle.curp_durable.specs.Answering.{record_of}
-use Rattle.curp_durable.specs.Journal.{Batch, HasEncoding, HoldsUpTo, IsSettled, ReadsJournal}
+use Rattle.curp_durable.specs.Journal.{Batch, HasEncoding, HoldsUpTo, IsSettled, ReadsJournal, framed, records}
+use Rattle.curp_durable.specs.Opening.{LedTo, Walked}
 use Rattle.curp_durable.specs.Running.{MadeUntil, RanCall, appending}
-use Rattle.curp_durable.specs.Standing.{Standing}
+use Rattle.curp_durable.specs.Standing.{Standing, after, begun}
 use Rattle.curp_durable.specs.Stopping.{IsStopped, StopLeaves, StopSynced, StopWrote, kept_commit, kept_inputs, stop_seen}
 use Rattle.curp_durable.proofs.Commits.{prefix_kept}
-use Rattle.curp_durable.proofs.Reading.{done, commit_within, shut_reads}
+use Rattle.curp_durable.proofs.Reading.{done, commit_within, records-grown, shut_reads}
 use Rattle.curp_durable.proofs.Standings.{all-push}
 
 -- ---- which calls were made
@@ -101,27 +102,37 @@ module _ (p : Played) (commit : ℕ) (title : List ℕ) (inputs : List Arrived) 
   written : over now (min (commit + 1) (length now)) piece ≡ behind
   written = ap (λ (n : ℕ). over now n piece) place
 
-  holds_before : (c : List ℕ) → c ≡ now → HoldsUpTo c title inputs commit
-  holds_before c is = record { batches = batches; all = all; reads = subst (λ (l : List ℕ). ReadsJournal l title batches commit) (sym is) reads }
+  -- a journal of these inputs, in which all stands that stood before
+  abbrev Holds : List ℕ → List Arrived → ℕ → Type 0
+  Holds c kept end = HoldsUpTo c title kept end × Walked c title commit batches
 
-  holds_shut : (c : List ℕ) → c ≡ behind → HoldsUpTo c title inputs commit
-  holds_shut c is = record {
-    batches = batches;
-    all = all;
-    reads = subst (λ (l : List ℕ). ReadsJournal l title batches commit) (sym is) (shut_reads now title batches commit reads behind (prefix_kept now commit piece within));
-  }
+  holds_so : (c : List ℕ) → ReadsJournal c title batches commit → Holds c inputs commit
+  holds_so c r = (record { batches = batches; all = all; reads = r }, record { byte = r.byte; rest = r.rest; is = r.is; place = r.place; encoded = r.encoded })
 
-  holds_open : (c : List ℕ) → c ≡ over behind commit (1 ∷ []) → HoldsUpTo c title (inputs ++ b) (commit + length piece)
-  holds_open c is = record {
-    batches = batches ++ b ∷ [];
-    all = all-push batches b ∙ ap (λ (l : List Arrived). l ++ b) all;
-    reads = done now title batches commit reads b has c is;
-  }
+  holds_before : (c : List ℕ) → c ≡ now → Holds c inputs commit
+  holds_before c is = holds_so c (subst (λ (l : List ℕ). ReadsJournal l title batches commit) (sym is) reads)
+
+  holds_shut : (c : List ℕ) → c ≡ behind → Holds c inputs commit
+  holds_shut c is =
+      holds_so c (subst (λ (l : List ℕ). ReadsJournal l title batches commit) (sym is) (shut_reads now title batches commit reads behind (prefix_kept now commit piece within)))
+
+  holds_open : (c : List ℕ) → c ≡ over behind commit (1 ∷ []) → Holds c (inputs ++ b) (commit + length piece)
+  holds_open c is =
+      let r = done now title batches commit reads b has c is in (
+        record { batches = batches ++ b ∷ []; all = all-push batches b ∙ ap (λ (l : List Arrived). l ++ b) all; reads = r },
+        record {
+          byte = 1;
+          rest = framed b ++ r.byte ∷ r.rest;
+          is = r.is ∙ ap (λ (l : List ℕ). l ++ r.byte ∷ r.rest) (records-grown title batches b) ∙ append_assoc (title ++ records batches) (1 ∷ framed b) (r.byte ∷ r.rest);
+          place = reads.place;
+          encoded = reads.encoded;
+        },
+      )
 
   opened : over (over now (min (commit + 1) (length now)) piece) (min commit (length (over now (min (commit + 1) (length now)) piece))) (1 ∷ []) ≡ over behind commit (1 ∷ [])
   opened = ap (λ (l : List ℕ). over l (min commit (length l)) (1 ∷ [])) written ∙ ap (λ (n : ℕ). over behind n (1 ∷ [])) place_of_commit
 
-  left_at : (k : ℕ) → 1 ≤ k → k ≤ 4 → (unsynced : Bool) → HoldsUpTo (seen_of (crashed unsynced (first_calls (k - 1)))) title (kept_inputs inputs b k unsynced) (kept_commit commit b k unsynced)
+  left_at : (k : ℕ) → 1 ≤ k → k ≤ 4 → (unsynced : Bool) → Holds (seen_of (crashed unsynced (first_calls (k - 1)))) (kept_inputs inputs b k unsynced) (kept_commit commit b k unsynced)
   left_at zero first last unsynced = absurd (omega (arith, first))
   left_at (suc zero) first last true = holds_before (seen_of (first_calls 0)) (seen_behind p.calls [] p.first)
   left_at (suc zero) first last false = holds_before (kept_of (first_calls 0)) (kept_behind p.calls [] p.first p.first ∙ was_kept)
@@ -134,10 +145,21 @@ module _ (p : Played) (commit : ℕ) (title : List ℕ) (inputs : List Arrived) 
   left_at (suc (suc (suc (suc (suc k))))) first last unsynced = absurd (omega (arith, last))
 
 -- what is left of a journal whose disk stopped
-pub stopped_holds : {N : Type 0} (machine : N → Input → Moved N) (old new : StopParts) (stand : Standing N) (commit k : ℕ) (title : List ℕ) (opening : N) (inputs b : List Arrived) (unsynced : Bool) → IsSettled machine stop_seen StopLeaves old stand commit title opening inputs → IsStopped old new commit k b
-    → HoldsUpTo (seen_of (crashed unsynced new.played)) title (kept_inputs inputs b k unsynced) (kept_commit commit b k unsynced)
-stopped_holds machine old new stand commit k title opening inputs [] unsynced s stopped = absurd stopped.ran
-stopped_holds machine old new stand commit k title opening inputs (a ∷ more) unsynced s stopped =
-    let made = made_before (appending commit (record_of (a ∷ more))) old new k stopped.armed stopped.first stopped.ran in
-    subst (λ (p : Played). HoldsUpTo (seen_of (crashed unsynced p)) title (kept_inputs inputs (a ∷ more) k unsynced) (kept_commit commit (a ∷ more) k unsynced)) (sym made)
-    (left_at old.played commit title inputs s.batches a more s.all s.reads s.durable stopped.encodes k stopped.first stopped.last unsynced)
+module _ {N : Type 0} (machine : N → Input → Moved N) (old new : StopParts) (stand : Standing N) (commit k : ℕ) (title : List ℕ) (opening : N) (inputs : List Arrived) where
+  left : (b : List Arrived) (unsynced : Bool) (s : IsSettled machine stop_seen StopLeaves old stand commit title opening inputs) → IsStopped old new commit k b
+      → HoldsUpTo (seen_of (crashed unsynced new.played)) title (kept_inputs inputs b k unsynced) (kept_commit commit b k unsynced) × Walked (seen_of (crashed unsynced new.played)) title commit s.batches
+  left [] unsynced s stopped = absurd stopped.ran
+  left (a ∷ more) unsynced s stopped =
+      let made = made_before (appending commit (record_of (a ∷ more))) old new k stopped.armed stopped.first stopped.ran in
+      subst (λ (p : Played). HoldsUpTo (seen_of (crashed unsynced p)) title (kept_inputs inputs (a ∷ more) k unsynced) (kept_commit commit (a ∷ more) k unsynced) × Walked (seen_of (crashed unsynced p)) title commit s.batches) (sym made)
+      (left_at old.played commit title inputs s.batches a more s.all s.reads s.durable stopped.encodes k stopped.first stopped.last unsynced)
+
+  pub stopped_holds : (b : List Arrived) (unsynced : Bool) → IsSettled machine stop_seen StopLeaves old stand commit title opening inputs → IsStopped old new commit k b → HoldsUpTo (seen_of (crashed unsynced new.played)) title (kept_inputs inputs b k unsynced) (kept_commit commit b k unsynced)
+  stopped_holds b unsynced s stopped = (left b unsynced s stopped).0
+
+  pub stopped_leaves : (b : List Arrived) (unsynced : Bool) → IsSettled machine stop_seen StopLeaves old stand commit title opening inputs → IsStopped old new commit k b → LedTo machine (seen_of (crashed unsynced new.played)) title opening (record { stand = stand; commit = commit })
+  stopped_leaves b unsynced s stopped = record {
+    batches = s.batches;
+    walked = (left b unsynced s stopped).1;
+    stand_is = s.stand_is ∙ ap (after machine (begun opening)) (sym s.all);
+  }

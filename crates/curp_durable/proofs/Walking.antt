@@ -1,16 +1,17 @@
 -- How a walk along a journal goes on.
 use Rattle.std.specs.Prelude.{◌≡◌, ◌≢◌, ℕ, ◌+◌, ◌<◌, ◌≤◌, List, [], ◌∷◌, ◌++◌, length, take, drop, get_or, refl}
-use Rattle.std.proofs.Common.{sym, ◌∙◌, ap, arith, append_assoc, length-append, take-append-drop}
-use Rattle.std.proofs.lemmas.List.{append-nil, drop_at, take_at, drop_more}
+use Rattle.std.proofs.Common.{sym, ◌∙◌, ap, subst, arith, append_assoc, length-append, take-append-drop}
+use Rattle.std.proofs.lemmas.List.{append-nil, drop_at, drop-drop, length-drop, take_at, drop_more}
 use Rattle.curp_base.specs.Words.{all_of}
 use Rattle.curp_journal.specs.declared.arrived.Arrived.{Arrived}
 use Rattle.curp_msg.specs.Moved.{Moved}
 use Rattle.curp_msg.specs.declared.machine.Input.{Input}
-use Rattle.curp_durable.specs.Journal.{Batch, IsNotFormatted, framed, records}
-use Rattle.curp_durable.specs.Opening.{FindsRecord, StartsJournal, Walked, WalkedBy, WalkedOver}
+use Rattle.curp_durable.specs.Journal.{Batch, IsDamaged, IsNotFormatted, framed, records}
+use Rattle.curp_durable.specs.Opening.{FindsNone, FindsNot, FindsRecord, FindsShut, IsOpened, OpensNot, StartsJournal, Walked, WalkedBy, WalkedFrom, WalkedOver, error_at}
 use Rattle.curp_durable.specs.Standing.{Standing, after, begun}
+use Rattle.curp_durable.specs.declared.error.OpenError.{OpenError}
 use Rattle.curp_durable.specs.declared.error.OpenError.TheVariants as opened
-use Rattle.curp_durable.proofs.Reading.{records-push, encoded-push}
+use Rattle.curp_durable.proofs.Reading.{records-grown, encoded-push}
 use Rattle.curp_durable.proofs.Standings.{after-append, all-push}
 
 -- a title at the start
@@ -58,7 +59,7 @@ module _ (content title : List ℕ) where
     }
       where
         grown : title ++ records (batches ++ b ∷ []) ≡ prefix ++ 1 ∷ framed b
-        grown = ap (λ (l : List ℕ). title ++ l) (records-push batches b) ∙ sym (append_assoc title (records batches) (1 ∷ framed b))
+        grown = records-grown title batches b
 
 -- ---- a walk that gives a node what it finds
 
@@ -72,6 +73,55 @@ module _ {N : Type 0} (machine : N → Input → Moved N) (content title : List 
       batches = w.batches ++ b ∷ [];
       walked = walk_on content title commit w.batches w.walked b step f;
       stand_is = is ∙ ap (λ (s : Standing N). after machine s b) w.stand_is ∙ sym (after-append machine (all_of w.batches) b (begun opening)) ∙ ap (after machine (begun opening)) (sym (all-push w.batches b));
+    }
+
+-- ---- the same over the bytes from a place on
+
+-- the next commit byte is among the bytes
+pub found_within : (bytes : List ℕ) (at : ℕ) (b : Batch) (step : ℕ) → FindsRecord (drop at bytes) b step → at + step < length bytes
+found_within bytes at b step f = omega (arith, ap length f.is, f.far, length-append (framed b) (f.byte ∷ f.rest), length-drop at bytes)
+
+module _ {N : Type 0} (machine : N → Input → Moved N) (bytes : List ℕ) (base at : ℕ) (stand : Standing N) (content title : List ℕ) (opening : N) (w : WalkedFrom machine bytes base at stand content title opening) where
+  abbrev commit : ℕ
+  commit = base + at
+
+  same_there : drop commit content ≡ drop at bytes
+  same_there = sym (drop-drop at base content) ∙ ap (λ (l : List ℕ). drop at l) (sym w.rest)
+
+  splits : (there : List ℕ) → drop at bytes ≡ there → content ≡ (title ++ records w.by.batches) ++ there
+  splits there is = seen_so content title commit w.by.batches w.by.walked there (same_there ∙ is)
+
+  pub from_on : (b : Batch) (step : ℕ) (next : Standing N) → FindsRecord (drop at bytes) b step → next ≡ after machine stand b → WalkedFrom machine bytes base (at + step) next content title opening
+  from_on b step next f is =
+      let found : FindsRecord (drop commit content) b step = subst (λ (l : List ℕ). FindsRecord l b step) (sym same_there) f in
+      let place : commit + step ≡ base + (at + step) = omega arith in
+      record { rest = w.rest; by = subst (λ (n : ℕ). WalkedBy machine content title opening n next) place (by_on machine content title opening commit stand w.by b step next found is) }
+
+  -- it ends at a shut commit byte
+  pub from_shut : FindsShut (drop at bytes) → IsOpened machine content title opening commit stand
+  from_shut f = record {
+    batches = w.by.batches;
+    reads = record { byte = f.byte; rest = f.rest; is = splits (f.byte ∷ f.rest) f.is; place = w.by.walked.place; shut = f.shut; encoded = w.by.walked.encoded };
+    stand_is = w.by.stand_is;
+  }
+
+  -- or where no record stands
+  from_none : FindsNone (drop at bytes) → IsDamaged content title commit
+  from_none f = record { batches = w.by.batches; rest = f.rest; is = splits (1 ∷ f.rest) f.is; at = w.by.walked.place; encoded = w.by.walked.encoded; stuck = f.none }
+
+  pub from_stuck : (error : OpenError) → FindsNot bytes at error → OpensNot content title (error_at commit error)
+  from_stuck opened.NotFormatted f = absurd f
+  from_stuck (opened.Damaged place) f = from_none f.0
+  from_stuck opened.DiskFault f = absurd f
+  from_stuck opened.NoMemory f = tt
+
+-- all bytes, from the first commit byte on
+pub from_starts : {N : Type 0} (machine : N → Input → Moved N) (content title : List ℕ) (opening : N) (stand : Standing N) → StartsJournal content title → stand ≡ begun opening → WalkedFrom machine content 0 (length title) stand content title opening
+from_starts machine content title opening stand s is =
+    let place : length title ≡ 0 + length title = omega arith in
+    record {
+      rest = refl;
+      by = subst (λ (n : ℕ). WalkedBy machine content title opening n stand) place (subst (WalkedBy machine content title opening (length title)) (sym is) (by_starts machine content title opening s));
     }
 
 -- ---- a walk that collects it

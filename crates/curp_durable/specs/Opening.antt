@@ -7,6 +7,7 @@ use Rattle.curp_msg.specs.Moved.{Moved}
 use Rattle.curp_msg.specs.declared.machine.Input.{Input}
 use Rattle.curp_durable.specs.Journal.{Batch, HasEncoding, IsDamaged, IsNotFormatted, ReadsJournal, framed, records}
 use Rattle.curp_durable.specs.Standing.{Standing, after, begun}
+use Rattle.curp_durable.specs.Value.{CheckpointParts}
 use Rattle.curp_durable.specs.declared.error.OpenError.{OpenError}
 use Rattle.curp_durable.specs.declared.error.OpenError.TheVariants as opened
 use Rattle.curp_durable.specs.declared.opening.FoundBatch.{FoundBatch}
@@ -61,6 +62,13 @@ FindsNot content commit (opened.Damaged place) = FindsNone (drop commit content)
 FindsNot content commit opened.DiskFault = ⊥
 FindsNot content commit opened.NoMemory = ⊤
 
+-- the same cause, at another place
+abbrev pub error_at : ℕ → OpenError → OpenError
+error_at place opened.NotFormatted = opened.NotFormatted
+error_at place (opened.Damaged other) = opened.Damaged place
+error_at place opened.DiskFault = opened.DiskFault
+error_at place opened.NoMemory = opened.NoMemory
+
 -- ---- all records
 
 -- A journal of these batches up to a commit byte of any byte
@@ -76,6 +84,19 @@ pub record WalkedBy {N : Type 0} (machine : N → Input → Moved N) (content ti
   pub batches : List Batch
   pub walked : Walked content title commit batches
   pub stand_is : stand ≡ after machine (begun opening) (all_of batches)
+
+-- the same, where these are the bytes from a place on, and the commit byte is so many bytes behind it
+pub record WalkedFrom {N : Type 0} (machine : N → Input → Moved N) (bytes : List ℕ) (base at : ℕ) (stand : Standing N) (content title : List ℕ) (opening : N) : Type 0 where
+  pub rest : bytes ≡ drop base content
+  pub by : WalkedBy machine content title opening (base + at) stand
+
+-- the bytes up to a checkpoint's place led its node from an opening to where it stood
+abbrev pub LedTo : {N : Type 0} → (N → Input → Moved N) → (content title : List ℕ) → (opening : N) → CheckpointParts N → Type 0
+LedTo machine content title opening checkpoint = WalkedBy machine content title opening checkpoint.commit checkpoint.stand
+
+-- they did so from some opening, behind some title
+abbrev pub HasLedTo : {N : Type 0} → (N → Input → Moved N) → List ℕ → CheckpointParts N → Type 0
+HasLedTo {N} machine content checkpoint = (title : List ℕ) × (opening : N) × LedTo machine content title opening checkpoint
 
 -- such a journal, and its inputs
 pub record WalkedOver (content title : List ℕ) (commit : ℕ) (inputs : List Arrived) : Type 0 where

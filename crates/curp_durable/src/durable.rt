@@ -7,13 +7,15 @@ ghost use Rattle.curp_durable.specs.Answering.{RefusesBatch};
 ghost use Rattle.curp_durable.specs.Appending.{Quiet};
 ghost use Rattle.curp_durable.specs.Journal.{HasSettled, HoldsJournal, HoldsUpTo, IsBeforeOrAfter, IsSettled};
 ghost use Rattle.curp_durable.specs.Lone.{done_by};
-ghost use Rattle.curp_durable.specs.Opening.{Exists, IsOfTheMoment, IsOnlyCause, IsOpened, OpensNot};
+ghost use Rattle.curp_durable.specs.Opening.{Exists, HasLedTo, IsOfTheMoment, IsOnlyCause, IsOpened, LedTo, OpensNot};
 ghost use Rattle.curp_durable.specs.Running.{AllMade, RanUntil, calls_for, commit_behind};
 ghost use Rattle.curp_durable.specs.Standing.{after, answers_of, stepped, taken};
+ghost use Rattle.curp_durable.specs.Value.{checkpoint_of};
 
+use crate::checkpoint::Checkpoint;
 use crate::deciding::{Undecided, decide};
 use crate::error::{DurableError, OpenError};
-use crate::opening::recover;
+use crate::opening::{recover, resume};
 use crate::stand::{Answered, Stand, done_in};
 use crate::writing::{Kept, append};
 use curp_base::NoMemory;
@@ -108,6 +110,67 @@ impl<N: Core + Drop, D: Disk> Durable<N, D> {
                 spent: false,
             }),
             Err(error) => Err(OpenFailed { error, disk }),
+        }
+    }
+
+    /// Opens a journal from a checkpoint on, of which all before the checkpoint's place is as it was then. It reads only
+    /// what stands from that place on, and takes memory for these bytes; else it is as `open`. Nothing is written.
+    ///
+    /// Where no byte stands at that place, which only a disk may have that doesn't tell its bytes, it is `NotFormatted`.
+    pub fn open_from(
+        alloc: Global,
+        mut disk: D,
+        checkpoint: Checkpoint<N>,
+        size_limit: u64,
+    ) -> Result<Durable<N, D>, OpenFailed<D>>
+        requires { D.tells ≡ true → HasLedTo N.machine (D.seen disk) checkpoint }
+        ensures ok { (title : List ℕ) (opening : N) → D.tells ≡ true
+            → LedTo N.machine (D.seen disk) title opening checkpoint
+            → IfOk result (λ d. IsOpened N.machine (D.seen disk) title opening d.commit d.stand) }
+        ensures fresh { IfOk result (λ d. d.spent ≡ false) }
+        ensures limit { IfOk result (λ d. d.size_limit ≡ size_limit) }
+        ensures quiet { IfOk result (λ d. Quiet D.seen D.may_leave D.moment D.left_since disk d.disk) }
+        ensures err { (title : List ℕ) (opening : N) → D.tells ≡ true
+            → LedTo N.machine (D.seen disk) title opening checkpoint
+            → IfErr result (λ f. OpensNot (D.seen disk) title f.error) }
+        ensures quiet_err { IfErr result (λ f. Quiet D.seen D.may_leave D.moment D.left_since disk f.disk) }
+        ensures cause { IfErr result (λ f. f.error ≡ OpenError.DiskFault → Rose (D.faults disk) (D.faults f.disk)) }
+        ensures never_falls { IfOk result (λ d. D.faults disk ≤ D.faults d.disk) }
+        ensures sound { D.sound disk → IfOk result (λ d. D.sound d.disk) }
+        ensures sound_err { D.sound disk → IfErr result (λ f. (f.error ≢ OpenError.DiskFault) × D.sound f.disk) }
+        ensures journal { (title : List ℕ) (opening : N) (inputs : List Arrived) → D.tells ≡ true
+            → LedTo N.machine (D.seen disk) title opening checkpoint → HoldsJournal (D.seen disk) title inputs
+            → IfOk result (λ d. IsSettled N.machine D.seen D.may_leave d.disk d.stand d.commit title opening inputs) }
+        ensures commit { (title : List ℕ) (opening : N) (inputs : List Arrived) (commit : ℕ) → D.tells ≡ true
+            → LedTo N.machine (D.seen disk) title opening checkpoint → HoldsUpTo (D.seen disk) title inputs commit
+            → IfOk result (λ d. d.commit ≡ commit) }
+        ensures journal_err { (title : List ℕ) (opening : N) (inputs : List Arrived) → D.tells ≡ true
+            → LedTo N.machine (D.seen disk) title opening checkpoint → HoldsJournal (D.seen disk) title inputs
+            → IfErr result (λ f. IsOfTheMoment f.error) }
+    {
+        let Checkpoint { stand, commit } = checkpoint;
+        match resume(alloc, &mut disk, commit, stand) {
+            Ok((stand, commit)) => Ok(Durable {
+                alloc,
+                disk,
+                stand,
+                commit,
+                size_limit,
+                spent: false,
+            }),
+            Err(error) => Err(OpenFailed { error, disk }),
+        }
+    }
+
+    /// Where the node stands now, from where its journal can be opened again (`open_from`). The caller gives a copy of the
+    /// node.
+    pub fn checkpoint(&self, node: N) -> Checkpoint<N>
+        requires { node ≡ self.now.stand.node }
+        ensures { result ≡ checkpoint_of self.now }
+    {
+        Checkpoint {
+            stand: self.stand.with_copy(node),
+            commit: self.commit,
         }
     }
 

@@ -4,7 +4,7 @@ ghost use Rattle.curp_disk.specs.Calls.{seen_of};
 ghost use Rattle.curp_disk.specs.InMemory.{StopParts, crashed};
 ghost use Rattle.curp_journal.specs.declared.arrived.Arrived.{Arrived};
 ghost use Rattle.curp_durable.specs.Journal.{HoldsJournal, HoldsUpTo, IsDamaged, IsSettled};
-ghost use Rattle.curp_durable.specs.Opening.{Exists, IsOnlyCause, OpensNot};
+ghost use Rattle.curp_durable.specs.Opening.{Exists, IsOnlyCause, LedTo, OpensNot};
 ghost use Rattle.curp_durable.specs.Standing.{Standing};
 ghost use Rattle.curp_durable.specs.Stopping.{IsStopped, StopLeaves, kept_commit, kept_inputs, stop_seen};
 ghost use Rattle.curp_durable.specs.declared.error.OpenError.{OpenError};
@@ -44,4 +44,15 @@ pub fn a_stopped_batch_is_kept_or_lost<N: Core>()
         → IsStopped old new commit k batch
         → HoldsUpTo (seen_of (crashed unsynced new.played)) title (kept_inputs inputs batch k unsynced)
         (kept_commit commit batch k unsynced) }
+{}
+
+/// On such a disk a crash leaves what led the node to where it stood before the batch: its journal can be opened from a
+/// checkpoint that was taken then.
+pub fn a_stopped_batch_leaves_what_was<N: Core>()
+    ensures { (old new : StopParts) (stand : Standing N) (commit k : ℕ) (title : List ℕ) (opening : N)
+        (inputs batch : List Arrived) (unsynced : Bool)
+        → IsSettled N.machine stop_seen StopLeaves old stand commit title opening inputs
+        → IsStopped old new commit k batch
+        → LedTo N.machine (seen_of (crashed unsynced new.played)) title opening
+        (record { stand = stand; commit = commit }) }
 {}

@@ -6,13 +6,16 @@
 //!
 //! - `format` writes an empty journal. `Durable::open` reads one and gives its inputs to a fresh node: `NotFormatted` and
 //!   `Damaged` come exactly where the bytes are so, and never where they are a journal (`journal`). `read_inputs` gives
-//!   the inputs alone, and `inputs_in` those of bytes that were read before.
+//!   the inputs alone, and `inputs_in` those of bytes that were read before. `Durable::open_from` reads and gives only
+//!   what stands behind a `Checkpoint`, and answers as `open` does of a journal that led to that (`LedTo`).
 //! - `Durable::on_all` gives the node a batch. The answers come once those that the node takes are on the disk
 //!   (`answers`, `kept`). After a crash at any moment in the call the disk has the journal with all of these or with none
 //!   (`any_moment`).
-//! - `laws`: bytes are one journal of a title at most, and never one and damaged; what is damaged is so at one place.
+//! - `laws`: bytes are one journal of a title at most, and never one and damaged; what is damaged is so at one place. Of a
+//!   batch that was stopped a crash leaves all or nothing, and all that stood before it.
 #![tactic(auto)]
 
+mod checkpoint;
 mod deciding;
 mod durable;
 mod error;
@@ -22,6 +25,7 @@ mod opening;
 mod stand;
 mod writing;
 
+pub use checkpoint::Checkpoint;
 pub use durable::{Durable, OpenFailed, SIZE_LIMIT};
 pub use error::{DurableError, FormatError, OpenError};
 pub use formatting::format;

@@ -1,10 +1,11 @@
-//! A journal is read from its start on.
-ghost use Rattle.std.specs.Prelude.{◌≡◌, ◌≢◌, ◌+◌, ◌^◌, ◌<◌, ◌≤◌, true, false, length, drop, IfOk, IfErr, OnOk};
+//! A journal is read from its start on, or from a commit byte on.
+ghost use Rattle.std.specs.Prelude.{◌≡◌, ◌≢◌, ◌+◌, ◌-◌, ◌^◌, ◌<◌, ◌≤◌, List, ℕ, true, false, length, drop, IfOk, IfErr, OnOk};
 ghost use Rattle.curp_disk.specs.Disk.{Only};
 ghost use Rattle.curp_io.specs.Streams.{Rose};
 ghost use Rattle.curp_durable.specs.Appending.{Quiet};
 ghost use Rattle.curp_durable.specs.Journal.{HoldsJournal, IsNotFormatted};
 ghost use Rattle.curp_durable.specs.Opening.{FindsBatch, FindsNext, FindsNot, FindsPiece, IsOfTheMoment, IsOpened, OpensNot, StartsJournal};
+ghost use Rattle.curp_durable.specs.Opening.{WalkedBy, WalkedFrom, error_at};
 
 use crate::error::OpenError;
 use crate::stand::Stand;
@@ -93,33 +94,75 @@ fn piece_at(
     }
 }
 
-/// Walks along the journal from its first commit byte on, and gives the node what stands there.
+/// The same cause, at another place.
+fn error_at(error: OpenError, place: u64) -> OpenError
+    ensures { result ≡ error_at place error }
+{
+    match error {
+        OpenError::Damaged { place: _ } => OpenError::Damaged { place },
+        other => other,
+    }
+}
+
+/// Walks along the journal from a commit byte on, and gives the node what stands there. The bytes are those from the
+/// place `base` on, and the commit byte is the one at `first` among them.
 fn walk<N: Core + Drop>(
     alloc: Global,
-    content: &[u8],
-    title: &[u8],
-    node: N,
+    bytes: &[u8],
+    base: u64,
+    first: usize,
+    mut stand: Stand<N>,
 ) -> Result<(Stand<N>, u64), OpenError>
-    requires starts { StartsJournal content.now title.now }
-    ensures ok { IfOk result (λ r. IsOpened N.machine content.now title.now node r.1 r.0) }
-    ensures within { IfOk result (λ r. r.1 < length content.now) }
-    ensures err { IfErr result (OpensNot content.now title.now) }
+    requires within { first < length bytes.now }
+    requires fits { base + length bytes.now < 2 ^ 64 }
+    ensures ok { (content title : List ℕ) (opening : N)
+        → WalkedFrom N.machine bytes.now base first stand content title opening
+        → IfOk result (λ r. IsOpened N.machine content title opening r.1 r.0) }
+    ensures within { IfOk result (λ r. r.1 < base + length bytes.now) }
+    ensures err { (content title : List ℕ) (opening : N)
+        → WalkedFrom N.machine bytes.now base first stand content title opening
+        → IfErr result (OpensNot content title) }
     ensures no_fault { IfErr result (λ e. e ≢ OpenError.DiskFault) }
 {
-    let mut stand = Stand::begin(node);
-    let mut commit = title.len();
+    let mut at = first;
     'commits: loop {
-        match batch_at(alloc, content, commit)? {
-            Some(found) => {
+        let place = base + at as u64;
+        match batch_at(alloc, bytes, at) {
+            Ok(Some(found)) => {
                 let behind = found.behind;
                 match stand.step_all(alloc, found.batch) {
-                    Ok(_) => commit = behind,
+                    Ok(_) => at = behind,
                     Err(_) => return Err(OpenError::NoMemory),
                 }
             }
-            None => return Ok((stand, commit as u64)),
+            Ok(None) => return Ok((stand, place)),
+            Err(error) => return Err(error_at(error, place)),
         }
     }
+}
+
+/// Gives the node what stands in these bytes, which are those from a commit byte on, up to which all led it to where it
+/// stands; also says where the last commit byte stands.
+fn go_on<N: Core + Drop>(
+    alloc: Global,
+    bytes: &[u8],
+    commit: u64,
+    stand: Stand<N>,
+) -> Result<(Stand<N>, u64), OpenError>
+    requires fits { commit + length bytes.now < 2 ^ 64 }
+    ensures ok { (content title : List ℕ) (opening : N)
+        → WalkedFrom N.machine bytes.now commit 0 stand content title opening
+        → IfOk result (λ r. IsOpened N.machine content title opening r.1 r.0) }
+    ensures within { IfOk result (λ r. r.1 + 1 < 2 ^ 64) }
+    ensures err { (content title : List ℕ) (opening : N)
+        → WalkedFrom N.machine bytes.now commit 0 stand content title opening
+        → IfErr result (OpensNot content title) }
+    ensures no_fault { IfErr result (λ e. e ≢ OpenError.DiskFault) }
+{
+    if bytes.is_empty() {
+        return Err(OpenError::NotFormatted);
+    }
+    walk(alloc, bytes, commit, 0, stand)
 }
 
 /// Reads the journal of a title and gives its inputs to a fresh node; also says where the last commit byte stands.
@@ -135,7 +178,7 @@ pub(crate) fn replay<N: Core + Drop>(
     ensures no_fault { IfErr result (λ e. e ≢ OpenError.DiskFault) }
 {
     if starts(content, title) {
-        walk(alloc, content, title, node)
+        walk(alloc, content, 0, title.len(), Stand::begin(node))
     } else {
         Err(OpenError::NotFormatted)
     }
@@ -215,21 +258,27 @@ fn make_ready<D: Disk>(disk: &mut D) -> Result<u64, OpenError>
     }
 }
 
-/// So many bytes from the start on, or as many as there are.
-fn prefix_of<D: Disk>(alloc: Global, disk: &mut D, size: u64) -> Result<Vec<u8>, OpenError>
+/// The bytes from a place on, of so many, or as many as there are.
+fn bytes_from<D: Disk>(
+    alloc: Global,
+    disk: &mut D,
+    at: u64,
+    size: u64,
+) -> Result<Vec<u8>, OpenError>
     requires size { D.tells ≡ true → size ≡ length (D.seen disk.old) }
     ensures quiet { Quiet D.seen D.may_leave D.moment D.left_since disk.old disk.new }
-    ensures bytes { D.tells ≡ true → IfOk result (λ bytes. bytes.items ≡ D.seen disk.old) }
+    ensures bytes { D.tells ≡ true → IfOk result (λ bytes. bytes.items ≡ drop at (D.seen disk.old)) }
+    ensures short { IfOk result (λ bytes. length bytes.items ≤ size - at) }
     ensures err { IfErr result IsOfTheMoment }
     ensures sound { D.sound disk.old → (result ≢ Err OpenError.DiskFault) × D.sound disk.new }
     ensures cause { result ≡ Err OpenError.DiskFault → Rose (D.faults disk.old) (D.faults disk.new) }
     ensures never_falls { D.faults disk.old ≤ D.faults disk.new }
 {
-    let mut bytes = match vec![in alloc; 0; size as usize] {
+    let mut bytes = match vec![in alloc; 0; size.saturating_sub(at) as usize] {
         Ok(bytes) => bytes,
         Err(_) => return Err(OpenError::NoMemory),
     };
-    match disk.read(0, &mut bytes) {
+    match disk.read(at, &mut bytes) {
         Did::Done(count) => {
             bytes.truncate(count);
             Ok(bytes)
@@ -239,10 +288,11 @@ fn prefix_of<D: Disk>(alloc: Global, disk: &mut D, size: u64) -> Result<Vec<u8>,
     }
 }
 
-/// All bytes of a disk, which is synced first.
-pub(crate) fn contents<D: Disk>(alloc: Global, disk: &mut D) -> Result<Vec<u8>, OpenError>
+/// The bytes of a disk from a place on. It is synced first.
+fn contents_from<D: Disk>(alloc: Global, disk: &mut D, at: u64) -> Result<Vec<u8>, OpenError>
     ensures quiet { Quiet D.seen D.may_leave D.moment D.left_since disk.old disk.new }
-    ensures bytes { D.tells ≡ true → IfOk result (λ bytes. bytes.items ≡ D.seen disk.old) }
+    ensures bytes { D.tells ≡ true → IfOk result (λ bytes. bytes.items ≡ drop at (D.seen disk.old)) }
+    ensures fits { IfOk result (λ bytes. at + length bytes.items < 2 ^ 64) }
     ensures durable { D.tells ≡ true → OnOk result (Only (D.seen disk.new) (D.may_leave disk.new)) }
     ensures err { IfErr result IsOfTheMoment }
     ensures sound { D.sound disk.old → (result ≢ Err OpenError.DiskFault) × D.sound disk.new }
@@ -250,7 +300,7 @@ pub(crate) fn contents<D: Disk>(alloc: Global, disk: &mut D) -> Result<Vec<u8>, 
     ensures never_falls { D.faults disk.old ≤ D.faults disk.new }
 {
     let size = make_ready(disk)?;
-    prefix_of(alloc, disk, size)
+    bytes_from(alloc, disk, at, size)
 }
 
 /// Reads the journal on a disk and gives its inputs to a fresh node; also says where the last commit byte stands.
@@ -269,8 +319,35 @@ pub(crate) fn recover<N: Core + Drop, D: Disk>(
     ensures cause { IfErr result (λ e. e ≡ OpenError.DiskFault → Rose (D.faults disk.old) (D.faults disk.new)) }
     ensures never_falls { D.faults disk.old ≤ D.faults disk.new }
 {
-    match contents(alloc, disk) {
+    match contents_from(alloc, disk, 0) {
         Ok(content) => replay(alloc, &content, title, node),
+        Err(error) => Err(error),
+    }
+}
+
+/// Reads what stands on a disk from a commit byte on, up to which its bytes led the node to where it stands, and gives
+/// that to the node; also says where the last commit byte stands.
+pub(crate) fn resume<N: Core + Drop, D: Disk>(
+    alloc: Global,
+    disk: &mut D,
+    commit: u64,
+    stand: Stand<N>,
+) -> Result<(Stand<N>, u64), OpenError>
+    ensures quiet { Quiet D.seen D.may_leave D.moment D.left_since disk.old disk.new }
+    ensures ok { (title : List ℕ) (opening : N) → D.tells ≡ true
+        → WalkedBy N.machine (D.seen disk.old) title opening commit stand
+        → IfOk result (λ r. IsOpened N.machine (D.seen disk.old) title opening r.1 r.0) }
+    ensures within { IfOk result (λ r. r.1 + 1 < 2 ^ 64) }
+    ensures durable { D.tells ≡ true → OnOk result (Only (D.seen disk.new) (D.may_leave disk.new)) }
+    ensures err { (title : List ℕ) (opening : N) → D.tells ≡ true
+        → WalkedBy N.machine (D.seen disk.old) title opening commit stand
+        → IfErr result (OpensNot (D.seen disk.old) title) }
+    ensures sound { D.sound disk.old → IfErr result (λ e. e ≢ OpenError.DiskFault) × D.sound disk.new }
+    ensures cause { IfErr result (λ e. e ≡ OpenError.DiskFault → Rose (D.faults disk.old) (D.faults disk.new)) }
+    ensures never_falls { D.faults disk.old ≤ D.faults disk.new }
+{
+    match contents_from(alloc, disk, commit) {
+        Ok(bytes) => go_on(alloc, &bytes, commit, stand),
         Err(error) => Err(error),
     }
 }
@@ -289,6 +366,6 @@ pub fn read_inputs<D: Disk>(
     ensures cause { result ≡ Err OpenError.DiskFault → Rose (D.faults disk.old) (D.faults disk.new) }
     ensures never_falls { D.faults disk.old ≤ D.faults disk.new }
 {
-    let content = contents(alloc, disk)?;
+    let content = contents_from(alloc, disk, 0)?;
     inputs_in(alloc, &content, title)
 }

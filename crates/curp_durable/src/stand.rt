@@ -86,6 +86,18 @@ impl<N: Core> Stand<N> {
         }
     }
 
+    /// The same, of a copy of the node.
+    pub fn with_copy(&self, node: N) -> Stand<N>
+        requires { node ≡ self.now.node }
+        ensures { result ≡ self.now }
+    {
+        Stand {
+            node,
+            count: self.count,
+            last: self.last,
+        }
+    }
+
     pub fn node(&self) -> &N
         ensures { result.now ≡ self.now.node }
     {
