@@ -3,7 +3,8 @@
 //!
 //! `Next::opening`, `after_recover`, `after_replace`, `after_migrate`: the numbers are those of the definition, and
 //! there are none where one would rise past its end. `backup_names`, `witness_names`, `opening_config`,
-//! `opening_hashes`, `move_range` and each message (`messages`): exact.
+//! `opening_hashes`, `move_range` and each message (`messages`): exact. What is in work is copied as it is, but for a
+//! package that was taken, which copies share (`copy`, `TryCopy` of `Work`).
 #![tactic(auto)]
 
 pub mod messages;

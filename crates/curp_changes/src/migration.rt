@@ -1,7 +1,7 @@
 // A migration in work.
-ghost use Rattle.std.specs.Prelude.{◌≡◌, ◌≤◌};
+ghost use Rattle.std.specs.Prelude.{◌≡◌, ◌≤◌, IfOk};
 
-use curp_base::Shared;
+use curp_base::{NoMemory, Shared};
 use curp_cmd::Package;
 use std::marker::Model;
 
@@ -38,5 +38,29 @@ impl Migration {
         ensures { self.new ≡ record self.old { moved = Some carried } }
     {
         self.moved = Some(carried);
+    }
+
+    /// The same migration. Both hold the package that was taken, which isn't copied.
+    pub fn copy(&self) -> Result<Migration, NoMemory>
+        ensures { IfOk result (λ copy. copy ≡ self.now) }
+    {
+        let moved = shared(&self.moved)?;
+        Ok(Migration {
+            number: self.number,
+            lo: self.lo,
+            hi: self.hi,
+            source: self.source,
+            target: self.target,
+            moved,
+        })
+    }
+}
+
+fn shared(moved: &Option<Shared<Package>>) -> Result<Option<Shared<Package>>, NoMemory>
+    ensures { IfOk result (λ same. same ≡ moved.now) }
+{
+    match moved {
+        Some(package) => Ok(Some(package.share()?)),
+        None => Ok(None),
     }
 }

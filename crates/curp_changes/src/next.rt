@@ -46,6 +46,20 @@ impl Model for Next {
 }
 
 impl Next {
+    /// The same numbers.
+    pub fn copy(&self) -> Next
+        ensures { result ≡ self.now }
+    {
+        Next {
+            epoch: self.epoch,
+            version: self.version,
+            master: self.master,
+            backup: self.backup,
+            witness: self.witness,
+            migration: self.migration,
+        }
+    }
+
     /// The numbers that the opening has left.
     pub fn opening(shape: &Shape) -> Next
         requires masters { shape.now.parts < u32.MAX }

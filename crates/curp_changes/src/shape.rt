@@ -1,3 +1,5 @@
+ghost use Rattle.std.specs.Prelude.{◌≡◌};
+
 use std::marker::Model;
 
 /// How many partitions and clients there are, and how many backups and witnesses each partition has.
@@ -24,4 +26,17 @@ impl Model for Shape {
     ghost Value = { model.Shape };
 
     ghost view = { λ s. record { f = s.f; parts = s.parts; clients = s.clients } };
+}
+
+impl Shape {
+    /// The same shape.
+    pub fn copy(&self) -> Shape
+        ensures { result ≡ self.now }
+    {
+        Shape {
+            f: self.f,
+            parts: self.parts,
+            clients: self.clients,
+        }
+    }
 }

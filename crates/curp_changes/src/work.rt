@@ -5,7 +5,7 @@ ghost use Rattle.curp_model.specs.Manager as model;
 ghost use Rattle.curp_changes.specs.Work.{doing_of};
 
 use crate::messages::{adopted_message, recover_messages, replace_messages, start_on};
-use curp_base::{Boxed, Items, NoMemory};
+use curp_base::{Boxed, Items, NoMemory, TryCopy};
 use curp_cmd::{Keeper, NodeId};
 use curp_msg::{Message, PartConfig, Recover};
 use std::alloc::Global;
@@ -33,6 +33,33 @@ pub enum Doing {
     Steady,
     Replacing(Replacement),
     Recovering(Attempt),
+}
+
+impl Replacement {
+    /// The same lists.
+    pub fn copy(&self, alloc: Global) -> Result<Replacement, NoMemory>
+        ensures { IfOk result (λ copy. copy ≡ self.now) }
+    {
+        Ok(Replacement {
+            kind: self.kind,
+            fresh: self.fresh,
+            version: self.version,
+            backups: self.backups.copy(alloc)?,
+            witnesses: self.witnesses.copy(alloc)?,
+        })
+    }
+}
+
+impl Attempt {
+    /// The same master, with the same order.
+    pub fn copy(&self, alloc: Global) -> Result<Attempt, NoMemory>
+        ensures { IfOk result (λ copy. copy ≡ self.now) }
+    {
+        Ok(Attempt {
+            master: self.master,
+            order: self.order.try_copy(alloc)?,
+        })
+    }
 }
 
 /// What is being done with a partition.
@@ -88,5 +115,15 @@ impl Work {
         ensures { doing_of result.now ≡ self.now }
     {
         &self.doing
+    }
+}
+
+impl TryCopy for Work {
+    fn try_copy(&self, alloc: Global) -> Result<Work, NoMemory> {
+        match &self.doing {
+            Doing::Steady => Ok(Work::steady()),
+            Doing::Replacing(lists) => Ok(Work::replacing(lists.copy(alloc)?)),
+            Doing::Recovering(attempt) => Ok(Work::recovering(attempt.copy(alloc)?)),
+        }
     }
 }

@@ -54,3 +54,10 @@ fn note(gone: &mut BTreeSet<u32>, client: u32) -> Result<(), NoMemory>
     gone.insert(client)?;
     Ok(())
 }
+
+// The same clients.
+pub(crate) fn same_clients(gone: &BTreeSet<u32>) -> Result<BTreeSet<u32>, NoMemory>
+    ensures { IfOk result (λ copy. copy.keys ≡ gone.now.keys) }
+{
+    gone.clone()
+}

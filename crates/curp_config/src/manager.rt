@@ -7,7 +7,8 @@ ghost use Rattle.curp_model.specs.Manager as model;
 ghost use Rattle.curp_msg.specs.declared.machine.Local.TheVariants as local;
 ghost use Rattle.curp_msg.specs.Moved.{Moves, done_of};
 
-use curp_base::NoMemory;
+use crate::gone::same_clients;
+use curp_base::{NoMemory, copies_of};
 use curp_changes::messages::{one, says};
 use curp_changes::names::{numbered, put_numbered};
 use curp_changes::{Migration, Next, Shape, Work, opening_config, opening_work};
@@ -85,6 +86,23 @@ impl Manager {
             moving: None,
             gone: BTreeSet::new(alloc),
             next: Next::opening(shape),
+        })
+    }
+
+    /// The same manager. Its memory is that of its configuration, of the clients that are gone, and of what is in work,
+    /// but for a package that was taken, which both hold: it doesn't grow with the inputs that led here.
+    pub fn copy(&self) -> Result<Manager, NoMemory>
+        ensures { IfOk result (λ copy. copy ≡ self.now) }
+    {
+        let moving = same_migration(&self.moving)?;
+        Ok(Manager {
+            alloc: self.alloc,
+            shape: self.shape.copy(),
+            config: self.config.copy(self.alloc)?,
+            doing: copies_of(self.alloc, &self.doing)?,
+            moving,
+            gone: same_clients(&self.gone)?,
+            next: self.next.copy(),
         })
     }
 
@@ -236,6 +254,15 @@ impl Manager {
         ensures { self.new ≡ model.with_doing self.old part work }
     {
         put_numbered(&mut self.doing, part, work);
+    }
+}
+
+fn same_migration(moving: &Option<Migration>) -> Result<Option<Migration>, NoMemory>
+    ensures { IfOk result (λ copy. copy ≡ moving.now) }
+{
+    match moving {
+        Some(migration) => Ok(Some(migration.copy()?)),
+        None => Ok(None),
     }
 }
 

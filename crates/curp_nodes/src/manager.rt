@@ -40,6 +40,14 @@ impl ManagerNode {
         Ok(ManagerNode { manager })
     }
 
+    /// The same node. What that costs is the configuration, and not the inputs that led here.
+    pub fn copy(&self) -> Result<ManagerNode, NoMemory>
+        ensures { IfOk result (λ copy. copy ≡ self.now) }
+    {
+        let manager = self.manager.copy()?;
+        Ok(ManagerNode { manager })
+    }
+
     /// The adopted configuration.
     pub fn config(&self) -> &Config
         ensures { result.now ≡ self.now.config }
