@@ -4,3 +4,4 @@ mod Lines
 mod Orders
 mod Room
 mod Stops
+mod Left

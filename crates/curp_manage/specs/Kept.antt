@@ -6,8 +6,9 @@ use Rattle.curp_disk.specs.Calls.{seen_of}
 use Rattle.curp_disk.specs.InMemory.{StopParts}
 use Rattle.curp_durable.specs.Answering.{record_of}
 use Rattle.curp_durable.specs.Journal.{HoldsUpTo, IsSettled}
+use Rattle.curp_durable.specs.Opening.{LedTo}
 use Rattle.curp_durable.specs.Stopping.{StopLeaves, stop_seen}
-use Rattle.curp_durable.specs.Value.{DurableParts}
+use Rattle.curp_durable.specs.Value.{CheckpointParts, DurableParts, checkpoint_of}
 use Rattle.curp_journal.specs.Given.{stamp_of}
 use Rattle.curp_journal.specs.declared.arrived.Arrived.{Arrived}
 use Rattle.curp_journal.specs.declared.arrived.Arrived.TheVariants as arrived
@@ -38,6 +39,11 @@ IsJournalOn h disk inputs commit = HoldsUpTo (seen_of disk.played) (title_for h)
 
 abbrev pub HasJournal : Header → StopParts → Type 0
 HasJournal h disk = (inputs : List Arrived) × (commit : ℕ) × IsJournalOn h disk inputs commit
+
+-- A crash left a journal, in which all stands that led the manager to a checkpoint
+pub record IsLeft (h : Header) (disk : StopParts) (checkpoint : CheckpointParts ManagerState) : Type 0 where
+  pub journal : HasJournal h disk
+  pub led : LedTo manager_machine (seen_of disk.played) (title_for h) (opening_manager (shape_of h)) checkpoint
 
 -- how many bytes a journal may have
 abbrev pub size_limit : ℕ
@@ -76,6 +82,10 @@ IsAtCall (Some c) = (1 ≤ c.call) × (c.call ≤ 4)
 -- the call of the disk at which it is to stop
 abbrev pub stop_call : Option Crash → Option ℕ
 stop_call crash = option_map (λ (c : Crash). c.call) crash
+
+-- where the manager stands, if a crash is to come
+abbrev pub standby_of : DurableParts ManagerState StopParts → Option Crash → Option (CheckpointParts ManagerState)
+standby_of d crash = option_map (λ (c : Crash). checkpoint_of d) crash
 
 -- ---- the manager with its journal
 

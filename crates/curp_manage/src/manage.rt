@@ -20,6 +20,8 @@ use std::alloc::Global;
 /// The text of a line is put into the sink before the next line is looked at, and passed on before the source is asked
 /// for more. Input and output that don't tell their bytes, as the standard streams, still have the promises on faults
 /// and on the flush. The disk is one in memory, which grows by some hundred bytes for each input since the last crash.
+/// Behind a crash the journal is opened from where it stood before the input that was stopped: what is read of it, and
+/// given to the manager, is what came since.
 pub fn manage_orders<S: Source, K: Sink>(alloc: Global, source: &mut S, sink: &mut K) -> Status
     // It ends as the script does, read to its end or at the first line that is refused, unless a fault or want of
     // memory cuts it short.

@@ -3,14 +3,15 @@ ghost use Rattle.curp_disk.specs.InMemory.{crashed};
 ghost use Rattle.curp_journal.specs.Given.{given};
 ghost use Rattle.curp_journal.specs.declared.arrived.Arrived.{Arrived};
 ghost use Rattle.curp_journal.specs.declared.arrived.Arrived.TheVariants as arrived;
-ghost use Rattle.curp_manage.specs.Kept.{HasFewNodes, HasJournal, IsJournalOn, IsManaged, IsNumberedBy, IsOpenedAgain};
-ghost use Rattle.curp_manage.specs.Kept.{IsSmallInput, done_told, recovered_arrived};
+ghost use Rattle.curp_manage.specs.Kept.{HasFewNodes, HasJournal, IsJournalOn, IsLeft, IsManaged, IsNumberedBy};
+ghost use Rattle.curp_manage.specs.Kept.{IsOpenedAgain, IsSmallInput, done_told, recovered_arrived, standby_of};
 ghost use Rattle.curp_manage.specs.Lines.{IsForManager, is_others_order};
 ghost use Rattle.curp_manage.specs.Managed.{crash_ordered, input_given, keeps_input, line_done, managed_opening};
 ghost use Rattle.curp_model.specs.Manager.{opening_manager};
 ghost use Rattle.curp_model.specs.World.{shape_of};
 ghost use Rattle.curp_msg.specs.Limits.{step_limit};
 ghost use Rattle.curp_msg.specs.declared.machine.Local.TheVariants as order;
+ghost use Rattle.curp_msg.specs.declared.script.Header.{Header};
 ghost use Rattle.curp_script.specs.Headers.{bad_field};
 ghost use Rattle.curp_script.specs.Manage.{HasCall};
 
@@ -19,8 +20,8 @@ use curp_base::{Items, NoMemory};
 use curp_changes::Shape;
 use curp_cmd::{Keeper, NodeId};
 use curp_disk::StopDisk;
-use curp_durable::laws::a_stopped_batch_is_kept_or_lost;
-use curp_durable::{Durable, DurableError, FormatError, OpenError, SIZE_LIMIT, format};
+use curp_durable::laws::{a_stopped_batch_is_kept_or_lost, a_stopped_batch_leaves_what_was};
+use curp_durable::{Checkpoint, Durable, DurableError, FormatError, OpenError, SIZE_LIMIT, format};
 use curp_journal::{Arrived, Named};
 use curp_msg::{Body, Done, Local, Message, Recovered};
 use curp_nodes::ManagerNode;
@@ -174,6 +175,7 @@ impl Managing {
         ensures numbered { IfOk result (λ r. IsNumberedBy self.next r.1) }
     {
         a_stopped_batch_is_kept_or_lost::<ManagerNode>();
+        a_stopped_batch_leaves_what_was::<ManagerNode>();
         let Managing {
             alloc,
             header,
@@ -181,6 +183,7 @@ impl Managing {
             next,
             crash,
         } = self;
+        let standby = standby_for(&manager, crash)?;
         match manager.on(arrived) {
             Ok(done) => {
                 let managing = Managing {
@@ -194,7 +197,10 @@ impl Managing {
             }
             Err(DurableError::DiskFault) => {
                 let Some(stop) = crash else { unreachable!() };
-                let manager = open_crashed(alloc, &header, manager, stop.kept)?;
+                let Some(checkpoint) = standby else {
+                    unreachable!()
+                };
+                let manager = open_crashed(alloc, manager, checkpoint, stop.kept)?;
                 let managing = Managing::over(alloc, header, manager, next);
                 let kept = stop.keeps_input();
                 Ok((managing, LineOutcome::Stopped { kept }))
@@ -333,25 +339,47 @@ fn formatted(alloc: Global, header: &Header) -> Result<StopDisk, NoMemory>
     }
 }
 
-/// The disk of a journal crashes, and the journal is opened again.
+/// From where the journal is to be opened again, if a crash is to come. It takes a copy of the configuration, however
+/// many inputs came before.
+fn standby_for(
+    manager: &Durable<ManagerNode, StopDisk>,
+    crash: Option<Crash>,
+) -> Result<Option<Checkpoint<ManagerNode>>, NoMemory>
+    ensures { IfOk result (λ standby. standby ≡ standby_of manager.now crash) }
+{
+    match crash {
+        Some(_) => {
+            let node = manager.node().copy()?;
+            Ok(Some(manager.checkpoint(node)))
+        }
+        None => Ok(None),
+    }
+}
+
+/// The disk of a journal crashes, and the journal is opened again from where it stood before: what is read is what came
+/// since, and not the whole of it.
 fn open_crashed(
     alloc: Global,
-    header: &Header,
     manager: Durable<ManagerNode, StopDisk>,
+    checkpoint: Checkpoint<ManagerNode>,
     kept: bool,
 ) -> Result<Durable<ManagerNode, StopDisk>, NoMemory>
-    requires few { HasFewNodes header.now }
-    requires journal { HasJournal header.now (record manager.disk { played = crashed kept manager.disk.played }) }
-    ensures { (inputs : List Arrived) (commit : ℕ)
-        → IsJournalOn header.now (record manager.disk { played = crashed kept manager.disk.played }) inputs commit
-        → IfOk result (λ d. IsOpenedAgain header.now d inputs commit) }
+    requires { (h : Header)
+        × IsLeft h (record manager.disk { played = crashed kept manager.disk.played }) checkpoint }
+    ensures { (h : Header) (inputs : List Arrived) (commit : ℕ)
+        → IsLeft h (record manager.disk { played = crashed kept manager.disk.played }) checkpoint
+        → IsJournalOn h (record manager.disk { played = crashed kept manager.disk.played }) inputs commit
+        → IfOk result (λ d. IsOpenedAgain h d inputs commit) }
 {
     let mut disk = manager.into_disk();
     disk.crash(kept);
-    open_again(alloc, header, disk)
+    match Durable::open_from(alloc, disk, checkpoint, SIZE_LIMIT) {
+        Ok(manager) => Ok(manager),
+        Err(failed) => Err(only_memory(failed.error)),
+    }
 }
 
-/// Opens the journal of a disk. Nothing but memory can be wanting.
+/// Opens the journal of a disk from its start on.
 fn open_again(
     alloc: Global,
     header: &Header,
@@ -367,12 +395,19 @@ fn open_again(
     let node = opening_node(alloc, header)?;
     match Durable::open(alloc, disk, &title, node, SIZE_LIMIT) {
         Ok(manager) => Ok(manager),
-        Err(failed) => match failed.error {
-            OpenError::NoMemory => Err(AllocError),
-            OpenError::DiskFault => unreachable!(),
-            OpenError::NotFormatted => unreachable!(),
-            OpenError::Damaged { .. } => unreachable!(),
-        },
+        Err(failed) => Err(only_memory(failed.error)),
+    }
+}
+
+/// Of a journal that is there, on a disk that isn't armed, nothing but memory can be wanting.
+fn only_memory(error: OpenError) -> NoMemory
+    requires { error ≡ OpenError.NoMemory }
+{
+    match error {
+        OpenError::NoMemory => AllocError,
+        OpenError::DiskFault => unreachable!(),
+        OpenError::NotFormatted => unreachable!(),
+        OpenError::Damaged { .. } => unreachable!(),
     }
 }
 

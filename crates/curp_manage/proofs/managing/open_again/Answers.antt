@@ -4,27 +4,20 @@ use Rattle.curp_durable.proofs.Settling.{some_commit}
 use Rattle.curp_durable.specs.Journal.{HoldsUpTo, IsSettled}
 use Rattle.curp_durable.specs.Stopping.{StopLeaves, stop_seen}
 use Rattle.curp_manage.proofs.Headers.{title_is}
+use Rattle.curp_manage.proofs.Left.{of_memory}
 use Rattle.curp_model.specs.Manager.{ManagerState, opening_manager}
 use Rattle.curp_model.specs.World.{shape_of}
 use Rattle.curp_nodes.specs.Machines.{manager_machine}
 use Rattle.curp_manage.proofs.managing.open_again.Goals as goal
 
 -- the journal is there, so nothing but memory can be wanting
-pub unreachable-requires-in-NotFormatted : goal.unreachable-requires-in-NotFormatted
-unreachable-requires-in-NotFormatted c =
+pub only_memory-requires : goal.only_memory-requires
+only_memory-requires c =
     let journal = c.requires.journal in
     let seen = seen_of c.args.disk.played in
     let is = title_is c.args.header.now c.manager.result c.title_of-title.result c.title_of-title.ensures c.manager.ensures in
     let holds = some_commit seen c.title_of-title.result journal.0 journal.1 (subst (λ (t : List ℕ). HoldsUpTo seen t journal.0 journal.1) (sym is) journal.2) in
-    absurd (rw c.in-NotFormatted.is at c.in-Err.ensures.journal_err journal.0 refl holds)
-
-pub unreachable-requires-in-Damaged : goal.unreachable-requires-in-Damaged
-unreachable-requires-in-Damaged c =
-    let journal = c.requires.journal in
-    let seen = seen_of c.args.disk.played in
-    let is = title_is c.args.header.now c.manager.result c.title_of-title.result c.title_of-title.ensures c.manager.ensures in
-    let holds = some_commit seen c.title_of-title.result journal.0 journal.1 (subst (λ (t : List ℕ). HoldsUpTo seen t journal.0 journal.1) (sym is) journal.2) in
-    absurd (rw c.in-Damaged.is at c.in-Err.ensures.journal_err journal.0 refl holds)
+    of_memory c.in-Err.failed.error (c.in-Err.ensures.journal_err journal.0 refl holds) (c.in-Err.ensures.sound_err c.requires.disarmed).0
 
 pub returns-in-Ok : goal.returns-in-Ok
 returns-in-Ok c = λ inputs commit journal.

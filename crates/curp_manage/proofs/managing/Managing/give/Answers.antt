@@ -6,6 +6,7 @@ use Rattle.curp_manage.specs.Kept.{title_for}
 use Rattle.curp_manage.specs.Managed.{LineDone, Managed, input_given}
 use Rattle.curp_manage.specs.declared.outcome.LineOutcome.TheVariants as outcome
 use Rattle.curp_manage.proofs.Given.{managed_after, managed_again, stopped_at, stopped_is, told_is}
+use Rattle.curp_manage.proofs.Left.{is_left, standby_is}
 use Rattle.curp_manage.proofs.Room.{encoded, has_room}
 use Rattle.curp_model.specs.Manager.{opening_manager}
 use Rattle.curp_model.specs.World.{shape_of}
@@ -35,8 +36,8 @@ returns-in-Ok-clause-done c =
 
 -- ---- the disk stops
 
-pub open_crashed-requires-clause-journal : goal.open_crashed-requires-clause-journal
-open_crashed-requires-clause-journal c =
+pub open_crashed-requires : goal.open_crashed-requires
+open_crashed-requires c =
     let i = c.self.inside in
     let m = c.self.invariant in
     let old = i.manager in
@@ -44,11 +45,11 @@ open_crashed-requires-clause-journal c =
     let few : old.stand.count < step_limit = subst (λ (v : Managed). v.decisions < step_limit) (sym c.self.view_is) c.requires.few in
     let failed = rw c.in-Err-DiskFault.field-0-is at c.in-Err-DiskFault.ensures.ran_err in
     let takes = taken manager_machine old.stand (c.args.arrived ∷ []) in
-    let stopped = stopped_at i.header old i.crash i.next c.args.arrived m few c.requires.small c.on.new.self.disk stop c.in-Some.is failed.0 failed.1 in (
-      kept_inputs m.inputs takes stop.call stop.kept,
-      kept_commit old.commit takes stop.call stop.kept,
-      c.a_stopped_batch_is_kept_or_lost.ensures old.disk c.on.new.self.disk old.stand old.commit stop.call (title_for i.header) (opening_manager (shape_of i.header)) m.inputs takes stop.kept m.keeps stopped,
-    )
+    let stopped = stopped_at i.header old i.crash i.next c.args.arrived m few c.requires.small c.on.new.self.disk stop c.in-Some.is failed.0 failed.1 in
+    let journal = c.a_stopped_batch_is_kept_or_lost.ensures old.disk c.on.new.self.disk old.stand old.commit stop.call (title_for i.header) (opening_manager (shape_of i.header)) m.inputs takes stop.kept m.keeps stopped in
+    let led = c.a_stopped_batch_leaves_what_was.ensures old.disk c.on.new.self.disk old.stand old.commit stop.call (title_for i.header) (opening_manager (shape_of i.header)) m.inputs takes stop.kept m.keeps stopped in
+    let is = standby_is old i.crash stop c.in_ok-standby.standby c.in-Some-standby.checkpoint c.in_ok-standby.ensures c.in-Some.is c.in-Some-standby.is in
+    (i.header, is_left i.header c.on.new.self.disk stop (kept_inputs m.inputs takes stop.call stop.kept) (kept_commit old.commit takes stop.call stop.kept) old c.in-Some-standby.checkpoint is journal led)
 
 pub over-managing-requires : goal.over-managing-requires
 over-managing-requires c =
@@ -62,7 +63,10 @@ over-managing-requires c =
     let stopped = stopped_at i.header old i.crash i.next c.args.arrived m few c.requires.small c.on.new.self.disk stop c.in-Some.is failed.0 failed.1 in
     let journal = c.a_stopped_batch_is_kept_or_lost.ensures old.disk c.on.new.self.disk old.stand old.commit stop.call (title_for i.header) (opening_manager (shape_of i.header)) m.inputs takes stop.kept m.keeps stopped in
     let again = c.in_ok-manager-in-Err-DiskFault.manager in
-    let opened = c.in_ok-manager-in-Err-DiskFault.ensures (kept_inputs m.inputs takes stop.call stop.kept) (kept_commit old.commit takes stop.call stop.kept) journal in
+    let led = c.a_stopped_batch_leaves_what_was.ensures old.disk c.on.new.self.disk old.stand old.commit stop.call (title_for i.header) (opening_manager (shape_of i.header)) m.inputs takes stop.kept m.keeps stopped in
+    let is = standby_is old i.crash stop c.in_ok-standby.standby c.in-Some-standby.checkpoint c.in_ok-standby.ensures c.in-Some.is c.in-Some-standby.is in
+    let left = is_left i.header c.on.new.self.disk stop (kept_inputs m.inputs takes stop.call stop.kept) (kept_commit old.commit takes stop.call stop.kept) old c.in-Some-standby.checkpoint is journal led in
+    let opened = c.in_ok-manager-in-Err-DiskFault.ensures i.header (kept_inputs m.inputs takes stop.call stop.kept) (kept_commit old.commit takes stop.call stop.kept) left journal in
     managed_again i.header old i.crash i.next c.args.arrived m few c.requires.small c.on.new.self.disk stop c.in-Some.is failed.0 failed.1 again opened
 
 pub returns-in_ok-manager-in-Err-DiskFault-clause-done : goal.returns-in_ok-manager-in-Err-DiskFault-clause-done
@@ -77,7 +81,10 @@ returns-in_ok-manager-in-Err-DiskFault-clause-done c =
     let stopped = stopped_at i.header old i.crash i.next c.args.arrived m few c.requires.small c.on.new.self.disk stop c.in-Some.is failed.0 failed.1 in
     let journal = c.a_stopped_batch_is_kept_or_lost.ensures old.disk c.on.new.self.disk old.stand old.commit stop.call (title_for i.header) (opening_manager (shape_of i.header)) m.inputs takes stop.kept m.keeps stopped in
     let again = c.in_ok-manager-in-Err-DiskFault.manager in
-    let opened = c.in_ok-manager-in-Err-DiskFault.ensures (kept_inputs m.inputs takes stop.call stop.kept) (kept_commit old.commit takes stop.call stop.kept) journal in
+    let led = c.a_stopped_batch_leaves_what_was.ensures old.disk c.on.new.self.disk old.stand old.commit stop.call (title_for i.header) (opening_manager (shape_of i.header)) m.inputs takes stop.kept m.keeps stopped in
+    let is = standby_is old i.crash stop c.in_ok-standby.standby c.in-Some-standby.checkpoint c.in_ok-standby.ensures c.in-Some.is c.in-Some-standby.is in
+    let left = is_left i.header c.on.new.self.disk stop (kept_inputs m.inputs takes stop.call stop.kept) (kept_commit old.commit takes stop.call stop.kept) old c.in-Some-standby.checkpoint is journal led in
+    let opened = c.in_ok-manager-in-Err-DiskFault.ensures i.header (kept_inputs m.inputs takes stop.call stop.kept) (kept_commit old.commit takes stop.call stop.kept) left journal in
     let so = stopped_is i.header old i.crash i.next c.args.arrived m few c.requires.small c.on.new.self.disk stop c.in-Some.is failed.0 failed.1 again opened c.keeps_input-kept.result c.keeps_input-kept.ensures in
     ap (λ (v : Managed). let d : LineDone = record { now = v; outcome = outcome.Stopped c.keeps_input-kept.result } in d) c.over-managing.ensures
     ∙ so ∙ ap (λ (v : Managed). input_given v (given c.args.arrived)) c.self.view_is
