@@ -27,7 +27,7 @@ fn record_nothing(rt: &impl Abort, history: &mut History) {
 fn try_event(rt: &impl Abort, history: &History, at: usize, expected: Event) {
     match history.events().get(at) {
         Some(kept) => right_at(rt, kept.event() == expected, "event", at as u64),
-        None => panic!(rt; "no event"),
+        None => rt.panic("no event"),
     }
 }
 

@@ -53,19 +53,29 @@ fn to(rt: &impl Abort, alloc: Global, hi: u64) -> Ranges {
     must(rt, Ranges::new(alloc, 0, hi))
 }
 
-fn take_out(rt: &impl Abort, ranges: &mut Ranges, lo: u64, hi: u64) -> Result<(), TakeError> {
+fn taken_out(
+    rt: &impl Abort,
+    ranges: &mut Ranges,
+    (lo, hi): (u64, u64),
+    answer: Result<(), TakeError>,
+) -> bool {
     assert!(rt; lo <= hi);
     made(rt, ranges.reserve(1));
-    ranges.take_out(lo, hi)
+    ranges.take_out(lo, hi) == answer
 }
 
-fn put_in(rt: &impl Abort, ranges: &mut Ranges, lo: u64, hi: u64) -> Result<(), PutError> {
+fn put_in(
+    rt: &impl Abort,
+    ranges: &mut Ranges,
+    (lo, hi): (u64, u64),
+    answer: Result<(), PutError>,
+) -> bool {
     assert!(rt; lo <= hi);
     made(rt, ranges.reserve(1));
-    ranges.put_in(lo, hi)
+    ranges.put_in(lo, hi) == answer
 }
 
-fn unite(rt: &impl Abort, ranges: &mut Ranges, lo: u64, hi: u64) -> bool {
+fn united(rt: &impl Abort, ranges: &mut Ranges, lo: u64, hi: u64) -> bool {
     assert!(rt; lo <= hi);
     made(rt, ranges.reserve(1));
     ranges.unite(lo, hi);
@@ -76,15 +86,27 @@ fn are(found: &[(u64, u64)], expected: &[(u64, u64)]) -> bool {
     found == expected
 }
 
+fn has(ranges: &Ranges, spans: &[(u64, u64)]) -> bool {
+    are(ranges.spans(), spans)
+}
+
+fn covers(ranges: &Ranges, lo: u64, hi: u64) -> bool {
+    ranges.covers(lo, hi)
+}
+
+fn lacks(ranges: &Ranges, hash: u64) -> bool {
+    !ranges.owns(hash)
+}
+
 // Whether the call answers that.
 fn answers(rt: &impl Abort, ranges: &mut Ranges, row: Row) -> bool {
     match row {
-        Row::TakesOut(lo, hi, answer) => take_out(rt, ranges, lo, hi) == answer,
-        Row::PutsIn(lo, hi, answer) => put_in(rt, ranges, lo, hi) == answer,
-        Row::Unites(lo, hi) => unite(rt, ranges, lo, hi),
-        Row::Has(spans) => are(ranges.spans(), spans),
-        Row::Covers(lo, hi) => ranges.covers(lo, hi),
-        Row::Lacks(hash) => !ranges.owns(hash),
+        Row::TakesOut(lo, hi, answer) => taken_out(rt, ranges, (lo, hi), answer),
+        Row::PutsIn(lo, hi, answer) => put_in(rt, ranges, (lo, hi), answer),
+        Row::Unites(lo, hi) => united(rt, ranges, lo, hi),
+        Row::Has(spans) => has(ranges, spans),
+        Row::Covers(lo, hi) => covers(ranges, lo, hi),
+        Row::Lacks(hash) => lacks(ranges, hash),
     }
 }
 
@@ -121,7 +143,7 @@ fn try_copy(rt: &impl Abort, alloc: Global, ranges: &Ranges) {
 #[test]
 fn spans_of_ranges_are_copied(rt: HostRuntime) {
     let mut ranges = to(&rt, rt.alloc(), 9);
-    unite(&rt, &mut ranges, 20, 29);
+    united(&rt, &mut ranges, 20, 29);
     let spans = Spans::new(ranges);
     let copy = must(&rt, spans.copy(rt.alloc()));
     drop(spans);

@@ -1,5 +1,5 @@
 // Inputs that come alone: orders for a manager whose disk stops, and messages for a backup.
-use crate::build::{begin, fence, fence_by_name, opened};
+use crate::build::{begin, fence, fence_by_name, must_hold, opened};
 use crate::manager::{manager, reopened};
 use curp_disk::StopDisk;
 use curp_durable::{Durable, DurableError};
@@ -9,25 +9,49 @@ use curp_nodes::{BackupNode, ManagerNode};
 use std::alloc::Global;
 use std::process::Abort;
 
-/// By which number an input is refused, and how many messages go out by it.
-fn told(done: Done) -> (u8, usize) {
-    let told = (done.refused, done.sent.len());
-    drop(done);
-    told
+/// Whether an input is refused by that number, and so many messages go out by it.
+fn is_done(done: Result<Done, DurableError>, refused: u8, sent: usize) -> bool {
+    match done {
+        Ok(done) => {
+            let is_done = done.refused == refused && done.sent.len() == sent;
+            drop(done);
+            is_done
+        }
+        Err(_) => false,
+    }
 }
 
-fn by_order<N: Core + Drop>(
+fn does<N: Core + Drop>(
     durable: &mut Durable<N, StopDisk>,
     order: Local,
-) -> Result<(u8, usize), DurableError> {
-    Ok(told(durable.on_order(order, 0)?))
+    refused: u8,
+    sent: usize,
+) -> bool {
+    is_done(durable.on_order(order, 0), refused, sent)
 }
 
-fn by_input<N: Core + Drop>(
+fn takes<N: Core + Drop>(
     durable: &mut Durable<N, StopDisk>,
     arrived: Arrived,
-) -> Result<(u8, usize), DurableError> {
-    Ok(told(durable.on(arrived)?))
+    refused: u8,
+    sent: usize,
+) -> bool {
+    is_done(durable.on(arrived), refused, sent)
+}
+
+/// Whether an order isn't done, for this reason.
+fn fails<N: Core + Drop>(
+    durable: &mut Durable<N, StopDisk>,
+    order: Local,
+    why: DurableError,
+) -> bool {
+    match durable.on_order(order, 0) {
+        Ok(done) => {
+            drop(done);
+            false
+        }
+        Err(error) => error == why,
+    }
 }
 
 fn arm(durable: &mut Durable<ManagerNode, StopDisk>, call: u64) {
@@ -45,7 +69,8 @@ fn begun(rt: &impl Abort, alloc: Global) -> Durable<ManagerNode, StopDisk> {
 fn without(rt: &impl Abort, alloc: Global, clients: u32) -> Durable<ManagerNode, StopDisk> {
     let mut durable = begun(rt, alloc);
     for client in 1..=clients {
-        assert_eq!(rt; by_order(&mut durable, Local::Expire(client)), Ok((0, 1)));
+        let is_gone = does(&mut durable, Local::Expire(client), 0, 1);
+        must_hold(rt, "a client goes", is_gone);
     }
     durable
 }
@@ -55,11 +80,10 @@ fn stopped(rt: &impl Abort, alloc: Global, clients: u32, call: u64) -> StopDisk 
     let mut durable = without(rt, alloc, clients);
     arm(&mut durable, call);
     let order = Local::Expire(clients.saturating_add(1));
-    assert_eq!(rt; by_order(&mut durable, order), Err(DurableError::DiskFault));
-    assert_eq!(rt;
-        by_order(&mut durable, Local::Nudge),
-        Err(DurableError::Spent)
-    );
+    let is_told = fails(&mut durable, order, DurableError::DiskFault);
+    must_hold(rt, "the disk stops", is_told);
+    let is_spent = fails(&mut durable, Local::Nudge, DurableError::Spent);
+    must_hold(rt, "the journal is spent", is_spent);
     durable.into_disk()
 }
 
@@ -71,13 +95,9 @@ fn try_crash(rt: &impl Abort, alloc: Global, clients: u32, call: u64, kept: bool
     let mut durable = reopened(rt, alloc, disk);
     let more = if call == 4 && kept { 1 } else { 0 };
     let gone = (clients as usize).saturating_add(more);
-    assert_eq!(rt; durable.count(), gone as u64, "{clients} {call} {kept}");
-    let sent = gone.saturating_add(2);
-    assert_eq!(rt;
-        by_order(&mut durable, Local::Nudge),
-        Ok((0, sent)),
-        "{clients} {call} {kept}"
-    );
+    must_hold(rt, "so many are gone", durable.count() == gone as u64);
+    let is_sent = does(&mut durable, Local::Nudge, 0, gone.saturating_add(2));
+    must_hold(rt, "so many messages are sent", is_sent);
     drop(durable);
 }
 
@@ -96,9 +116,16 @@ fn an_order_is_kept_once_its_commit_is(rt: HostRuntime) {
 fn a_refused_order_is_not_kept(rt: HostRuntime) {
     let mut durable = without(&rt, rt.alloc(), 2);
     arm(&mut durable, 1);
-    assert_eq!(rt; by_order(&mut durable, Local::Expire(65)), Ok((1, 0)));
-    assert_eq!(rt; (durable.count(), durable.spent()), (2, false));
+    let is_refused = does(&mut durable, Local::Expire(65), 1, 0);
+    must_hold(&rt, "it is refused", is_refused);
+    must_hold(&rt, "two were kept", durable.count() == 2);
+    must_hold(&rt, "it goes on", !durable.spent());
     drop(durable);
+}
+
+/// Whether that is the next master's number, of a configuration that didn't change.
+fn is_at(manager: &ManagerNode, next_master: u32) -> bool {
+    manager.next_master() == next_master && manager.config().serial == 1
 }
 
 /// The manager is lent with all that it took.
@@ -110,11 +137,12 @@ fn the_manager_is_at_hand(rt: HostRuntime) {
         backup: 1,
         witness: 1,
     };
-    assert_eq!(rt; by_order(&mut durable, recover), Ok((0, 3)));
-    assert_eq!(rt; durable.node().next_master(), 3);
-    assert_eq!(rt; durable.node().config().serial, 1);
-    assert_eq!(rt; manager(&rt, rt.alloc()).next_master(), 2);
+    must_hold(&rt, "a recovery", does(&mut durable, recover, 0, 3));
+    must_hold(&rt, "the manager", is_at(durable.node(), 3));
     drop(durable);
+    let fresh = manager(&rt, rt.alloc());
+    must_hold(&rt, "a fresh manager", is_at(&fresh, 2));
+    drop(fresh);
 }
 
 fn backup(rt: &impl Abort, alloc: Global) -> Durable<BackupNode, StopDisk> {
@@ -127,11 +155,20 @@ fn backup(rt: &impl Abort, alloc: Global) -> Durable<BackupNode, StopDisk> {
 #[test]
 fn messages_come_alone(rt: HostRuntime) {
     let mut durable = backup(&rt, rt.alloc());
-    let done = durable.on_message(fence_by_name(2, 7));
-    assert_eq!(rt; done.map(|done| told(done)), Ok((0, 1)));
-    assert_eq!(rt; (durable.count(), durable.last_stamp()), (1, 8));
-    assert_eq!(rt; by_input(&mut durable, fence(3, u64::MAX)), Ok((255, 0)));
-    assert_eq!(rt; by_input(&mut durable, fence(3, 1)), Ok((0, 1)));
-    assert_eq!(rt; (durable.count(), durable.last_stamp()), (2, 9));
+    try_messages(&rt, &mut durable);
     drop(durable);
+}
+
+fn has_taken(durable: &Durable<BackupNode, StopDisk>, count: u64, stamp: u64) -> bool {
+    durable.count() == count && durable.last_stamp() == stamp
+}
+
+fn try_messages(rt: &impl Abort, durable: &mut Durable<BackupNode, StopDisk>) {
+    let done = durable.on_message(fence_by_name(2, 7));
+    must_hold(rt, "the first", is_done(done, 0, 1));
+    must_hold(rt, "one was taken", has_taken(durable, 1, 8));
+    let is_refused = takes(durable, fence(3, u64::MAX), 255, 0);
+    must_hold(rt, "the highest stamp", is_refused);
+    must_hold(rt, "the second", takes(durable, fence(3, 1), 0, 1));
+    must_hold(rt, "two were taken", has_taken(durable, 2, 9));
 }

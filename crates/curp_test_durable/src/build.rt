@@ -11,6 +11,13 @@ use std::process::Abort;
 /// The title of each journal.
 pub(crate) const TITLE: &[u8] = b"node";
 
+/// Ends a test in which that doesn't hold.
+pub(crate) fn must_hold(rt: &impl Abort, what: &str, holds: bool) {
+    if !holds {
+        rt.panic(what)
+    }
+}
+
 /// Writes an empty journal.
 pub(crate) fn begin<D: Disk>(rt: &impl Abort, alloc: Global, disk: &mut D) {
     assert!(rt; format(alloc, disk, TITLE).is_ok());
@@ -68,7 +75,7 @@ fn numbers_of(alloc: Global, answers: &[Answered]) -> Result<Vec<u64>, NoMemory>
 fn number_of(answered: &Answered) -> u64 {
     match answered {
         Answered::Made { step, .. } => *step,
-        Answered::Refused { number } => 1000 + u64::from(*number),
+        Answered::Refused { number } => u64::from(*number).wrapping_add(1000),
     }
 }
 
@@ -106,6 +113,46 @@ pub(crate) fn nudged<N: Core + Drop, D: Disk>(
     durable: &mut Durable<N, D>,
 ) -> (u64, usize) {
     ordered(rt, alloc, durable, Local::Nudge).expect(rt, "no answer")
+}
+
+/// Whether a nudge tells that.
+pub(crate) fn nudge_tells<N: Core + Drop, D: Disk>(
+    rt: &impl Abort,
+    alloc: Global,
+    durable: &mut Durable<N, D>,
+    count: u64,
+    sent: usize,
+) -> bool {
+    let (taken, out) = nudged(rt, alloc, durable);
+    taken == count && out == sent
+}
+
+/// Whether an order tells that.
+pub(crate) fn order_tells<N: Core + Drop, D: Disk>(
+    rt: &impl Abort,
+    alloc: Global,
+    durable: &mut Durable<N, D>,
+    order: Local,
+    (count, sent): (u64, usize),
+) -> bool {
+    match ordered(rt, alloc, durable, order) {
+        Ok((taken, out)) => taken == count && out == sent,
+        Err(_) => false,
+    }
+}
+
+/// Whether an order isn't done, for this reason.
+pub(crate) fn order_fails<N: Core + Drop, D: Disk>(
+    rt: &impl Abort,
+    alloc: Global,
+    durable: &mut Durable<N, D>,
+    order: Local,
+    why: DurableError,
+) -> bool {
+    match ordered(rt, alloc, durable, order) {
+        Ok(_) => false,
+        Err(error) => error == why,
+    }
 }
 
 fn told_by(answers: &[Answered]) -> (u64, usize) {

@@ -1,5 +1,7 @@
 // Crashes between the calls of the disk, a disk that was refused, and inputs that are.
-use crate::build::{TITLE, add, begin, fence, fences, nudged, numbers, opened, opened_as};
+use crate::build::{
+    TITLE, add, begin, fence, fences, must_hold, nudge_tells, nudged, numbers, opened, opened_as,
+};
 use curp_disk::StopDisk;
 use curp_durable::{Durable, DurableError, OpenError, SIZE_LIMIT};
 use curp_journal::Arrived;
@@ -20,11 +22,12 @@ fn disk_of_three(rt: &impl Abort, alloc: Global) -> StopDisk {
     let mut disk = StopDisk::new(alloc);
     begin(rt, alloc, &mut disk);
     let mut durable = reopened(rt, alloc, disk);
-    assert_eq!(rt; keeps(rt, alloc, &mut durable, 3), Ok(3));
+    must_hold(rt, "three", keeps(rt, alloc, &mut durable, 3));
     durable.into_disk()
 }
 
-fn keeps(
+/// How many of so many messages are kept, or why none is.
+fn kept(
     rt: &impl Abort,
     alloc: Global,
     durable: &mut Durable<BackupNode, StopDisk>,
@@ -36,18 +39,42 @@ fn keeps(
     Ok(count)
 }
 
+fn keeps(
+    rt: &impl Abort,
+    alloc: Global,
+    durable: &mut Durable<BackupNode, StopDisk>,
+    count: u32,
+) -> bool {
+    match kept(rt, alloc, durable, count) {
+        Ok(found) => found == count as usize,
+        Err(_) => false,
+    }
+}
+
+fn fails(
+    rt: &impl Abort,
+    alloc: Global,
+    durable: &mut Durable<BackupNode, StopDisk>,
+    count: u32,
+    why: DurableError,
+) -> bool {
+    match kept(rt, alloc, durable, count) {
+        Ok(_) => false,
+        Err(error) => error == why,
+    }
+}
+
 /// The disk once it stopped at that call while five messages more were kept.
 fn stopped(rt: &impl Abort, alloc: Global, call: u64) -> StopDisk {
     let mut disk = disk_of_three(rt, alloc);
     // The sync of the opening is a call too.
     disk.arm(call.wrapping_add(1));
     let mut durable = reopened(rt, alloc, disk);
-    assert_eq!(rt;
-        keeps(rt, alloc, &mut durable, 5),
-        Err(DurableError::DiskFault)
-    );
-    assert!(rt; durable.spent());
-    assert_eq!(rt; keeps(rt, alloc, &mut durable, 1), Err(DurableError::Spent));
+    let is_told = fails(rt, alloc, &mut durable, 5, DurableError::DiskFault);
+    must_hold(rt, "the disk stops", is_told);
+    must_hold(rt, "the journal is spent", durable.spent());
+    let is_spent = fails(rt, alloc, &mut durable, 1, DurableError::Spent);
+    must_hold(rt, "nothing more is taken", is_spent);
     durable.into_disk()
 }
 
@@ -59,7 +86,7 @@ fn try_crash(rt: &impl Abort, alloc: Global, call: u64, kept: bool) {
     let wanted = if call == 4 && kept { 8 } else { 3 };
     let (count, _) = nudged(rt, alloc, &mut durable);
     drop(durable);
-    assert_eq!(rt; count, wanted, "{call} {kept}");
+    must_hold(rt, "what is kept", count == wanted);
 }
 
 #[test]
@@ -82,9 +109,15 @@ fn mixed(rt: &impl Abort, alloc: Global) -> Vec<Arrived> {
 /// The disk once three messages more came, of which one is refused.
 fn disk_of_mixed(rt: &impl Abort, alloc: Global) -> StopDisk {
     let mut durable = reopened(rt, alloc, disk_of_three(rt, alloc));
-    let numbers = numbers(alloc, &mut durable, mixed(rt, alloc)).expect(rt, "no answer");
-    assert!(rt; numbers.as_slice() == [4, 1255, 5].as_slice());
+    try_mixed(rt, alloc, &mut durable);
     durable.into_disk()
+}
+
+fn try_mixed(rt: &impl Abort, alloc: Global, durable: &mut Durable<BackupNode, StopDisk>) {
+    let numbers = numbers(alloc, durable, mixed(rt, alloc)).expect(rt, "no answer");
+    let are = numbers.as_slice() == [4, 1255, 5].as_slice();
+    drop(numbers);
+    must_hold(rt, "the numbers", are);
 }
 
 #[test]
@@ -93,9 +126,9 @@ fn what_is_refused_is_not_kept(rt: HostRuntime) {
     let mut disk = disk_of_mixed(&rt, alloc);
     disk.crash(false);
     let mut durable = reopened(&rt, alloc, disk);
-    let told = nudged(&rt, alloc, &mut durable);
+    let tells = nudge_tells(&rt, alloc, &mut durable, 5, 0);
     drop(durable);
-    assert_eq!(rt; told, (5, 0));
+    must_hold(&rt, "five were kept", tells);
 }
 
 /// Why a disk isn't opened as of that title.
@@ -113,15 +146,18 @@ fn error_by(rt: &impl Abort, alloc: Global, title: &[u8]) -> Option<OpenError> {
 #[test]
 fn another_title_is_not_opened(rt: HostRuntime) {
     let alloc = rt.alloc();
-    let other = Some(OpenError::NotFormatted);
-    assert_eq!(rt; error_by(&rt, alloc, b"node"), None);
-    assert_eq!(rt; error_by(&rt, alloc, b"nods"), other);
+    let own = error_by(&rt, alloc, b"node");
+    must_hold(&rt, "its own", own == None);
+    let other = error_by(&rt, alloc, b"nods");
+    must_hold(&rt, "another", other == Some(OpenError::NotFormatted));
 }
 
 fn try_to_fill(rt: &impl Abort, alloc: Global, durable: &mut Durable<BackupNode, StopDisk>) {
-    assert_eq!(rt; keeps(rt, alloc, durable, 2), Err(DurableError::Full));
-    assert_eq!(rt; keeps(rt, alloc, durable, 1), Ok(1));
-    assert_eq!(rt; keeps(rt, alloc, durable, 1), Err(DurableError::Full));
+    let is_full = fails(rt, alloc, durable, 2, DurableError::Full);
+    must_hold(rt, "no room for two", is_full);
+    must_hold(rt, "room for one", keeps(rt, alloc, durable, 1));
+    let is_full = fails(rt, alloc, durable, 1, DurableError::Full);
+    must_hold(rt, "no more room", is_full);
 }
 
 /// A message has 49 bytes, a batch 13 more, the title and the last commit byte 5: with a fourth message the journal has 227.

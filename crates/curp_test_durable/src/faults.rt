@@ -1,5 +1,5 @@
 // A disk that fails at one of its calls, at each in turn: at those that read it and ask for its length too.
-use crate::build::{TITLE, fences, numbers, opened};
+use crate::build::{TITLE, fences, must_hold, numbers, opened};
 use curp_disk::MemoryDisk;
 use curp_durable::{Durable, DurableError, FormatError, OpenError, format};
 use curp_nodes::BackupNode;
@@ -7,7 +7,7 @@ use std::alloc::Global;
 use std::process::Abort;
 
 /// Which call of a journal answers that its disk failed.
-#[derive(Clone, Copy, Debug, PartialEq, Eq)]
+#[derive(Clone, Copy, PartialEq, Eq)]
 enum Told {
     ByFormat,
     ByOpen,
@@ -21,7 +21,7 @@ fn told_by_format(rt: &impl Abort, alloc: Global, failing: u64) -> Told {
     match format(alloc, &mut disk, TITLE) {
         Ok(()) => told_by_open(rt, alloc, disk),
         Err(error) => {
-            assert!(rt; matches!(error, FormatError::DiskFault));
+            must_hold(rt, "formatting", error == FormatError::DiskFault);
             drop(disk);
             Told::ByFormat
         }
@@ -32,7 +32,7 @@ fn told_by_open(rt: &impl Abort, alloc: Global, disk: MemoryDisk) -> Told {
     match opened(alloc, disk, BackupNode::new(alloc, 1, 1)) {
         Ok(durable) => told_by_batch(rt, alloc, durable),
         Err(error) => {
-            assert!(rt; matches!(error, OpenError::DiskFault));
+            must_hold(rt, "opening", error == OpenError::DiskFault);
             Told::ByOpen
         }
     }
@@ -47,11 +47,11 @@ fn told_by_batch(
     drop(durable);
     match kept {
         Ok(numbers) => {
-            assert!(rt; numbers.len() == 3);
+            must_hold(rt, "three numbers", numbers.len() == 3);
             Told::ByNone
         }
         Err(error) => {
-            assert!(rt; matches!(error, DurableError::DiskFault));
+            must_hold(rt, "a batch", error == DurableError::DiskFault);
             Told::ByBatch
         }
     }
@@ -68,10 +68,7 @@ fn each_call_of_a_disk_that_fails_is_told(rt: HostRuntime) {
             7..=10 => Told::ByBatch,
             _ => Told::ByNone,
         };
-        assert_eq!(rt;
-            told_by_format(&rt, rt.alloc(), failing),
-            wanted,
-            "{failing}"
-        );
+        let told = told_by_format(&rt, rt.alloc(), failing);
+        must_hold(&rt, "who tells", told == wanted);
     }
 }

@@ -1,6 +1,6 @@
 // A recovery of 25,000 entries, and a migration of as many pairs: each message crosses as a frame, and each node stands on a
 // journal.
-use crate::build::{add, begin, opened, ordered};
+use crate::build::{add, begin, must_hold, opened, order_tells};
 use curp_base::{AscendingPairs, Boxed, Items, Shared, pairs_ascend};
 use curp_changes::Shape;
 use curp_cmd::{Command, Entry, Key, NodeId, Package, Request, RequestId, TablePart, Value};
@@ -77,6 +77,19 @@ fn hand<N: Core + Drop>(
     };
     drop(answers);
     sent
+}
+
+/// The node sends something to that one.
+fn try_answered<N: Core + Drop>(
+    rt: &impl Abort,
+    alloc: Global,
+    durable: &mut Journal<N>,
+    message: Message,
+    to: NodeId,
+) {
+    let sent = hand(rt, alloc, durable, message, to);
+    must_hold(rt, "an answer", sent.is_some());
+    drop(sent);
 }
 
 // ---- a recovery
@@ -163,17 +176,11 @@ fn entries_in(message: &Message) -> usize {
 /// The fence's answer of a backup that has all the entries.
 fn whole_log(rt: &impl Abort, alloc: Global, fence: Message) -> Message {
     let mut backup = stands(rt, alloc, BackupNode::new(alloc, 1, 1));
-    let stored = hand(
-        rt,
-        alloc,
-        &mut backup,
-        appended(rt, alloc),
-        NodeId::master(1),
-    );
-    assert!(rt; stored.is_some());
-    drop(stored);
+    let append = appended(rt, alloc);
+    try_answered(rt, alloc, &mut backup, append, NodeId::master(1));
     let log = hand(rt, alloc, &mut backup, fence, NodeId::master(2));
-    assert_eq!(rt; again(rt, alloc, backup, BackupNode::new(alloc, 1, 1)), 2);
+    let count = again(rt, alloc, backup, BackupNode::new(alloc, 1, 1));
+    must_hold(rt, "two were taken", count == 2);
     log.expect(rt, "no log")
 }
 
@@ -189,21 +196,39 @@ fn a_large_partition_is_recovered(rt: HostRuntime) {
         NodeId::backup(1),
     );
     let log = whole_log(&rt, alloc, fence.expect(&rt, "no fence"));
-    assert_eq!(rt; entries_in(&log), COUNT as usize);
-    assert!(rt; !is_light(&log));
-    let early = hand(&rt, alloc, &mut master, log, NodeId::backup(2));
-    let late = hand(&rt, alloc, &mut master, frozen(alloc), NodeId::backup(2));
-    assert!(rt; early.is_none());
-    let append = late.expect(&rt, "no append");
-    assert_eq!(rt; entries_in(&append), COUNT as usize);
-    let mut backup = stands(&rt, alloc, BackupNode::new(alloc, 2, 2));
-    let stored = hand(&rt, alloc, &mut backup, append, NodeId::master(2)).expect(&rt, "no answer");
-    let recovered = hand(&rt, alloc, &mut master, stored, NodeId::manager());
-    assert!(rt; recovered.is_some());
-    drop(recovered);
+    let append = append_of(&rt, alloc, &mut master, log);
+    let stored = stored_by(&rt, alloc, append);
+    try_answered(&rt, alloc, &mut master, stored, NodeId::manager());
+    let count = again(&rt, alloc, master, MasterNode::fresh(alloc, 2));
+    must_hold(&rt, "four were taken", count == 4);
+}
+
+fn try_all(rt: &impl Abort, message: &Message) {
+    must_hold(rt, "all entries", entries_in(message) == COUNT as usize);
+}
+
+/// What the master appends at its new backup once it heard the log and of the witness.
+fn append_of(
+    rt: &impl Abort,
+    alloc: Global,
+    master: &mut Journal<MasterNode>,
+    log: Message,
+) -> Message {
+    try_all(rt, &log);
+    must_hold(rt, "heavy", !is_light(&log));
+    let early = hand(rt, alloc, master, log, NodeId::backup(2));
+    must_hold(rt, "nothing yet", early.is_none());
     drop(early);
+    let late = hand(rt, alloc, master, frozen(alloc), NodeId::backup(2));
+    late.expect(rt, "no append")
+}
+
+fn stored_by(rt: &impl Abort, alloc: Global, append: Message) -> Message {
+    try_all(rt, &append);
+    let mut backup = stands(rt, alloc, BackupNode::new(alloc, 2, 2));
+    let stored = hand(rt, alloc, &mut backup, append, NodeId::master(2));
     drop(backup);
-    assert_eq!(rt; again(&rt, alloc, master, MasterNode::fresh(alloc, 2)), 4);
+    stored.expect(rt, "no answer")
 }
 
 // ---- a migration
@@ -231,7 +256,7 @@ fn pairs(rt: &impl Abort, alloc: Global) -> AscendingPairs<Key, Value> {
 /// What the first master answers to that order of the manager.
 fn taken(rt: &impl Abort, alloc: Global, order: &Message) -> Message {
     let Body::TakeOut(take) = &order.body else {
-        panic!(rt; "no order to take out");
+        rt.panic("no order to take out")
     };
     let package = Package {
         lo: take.lo,
@@ -281,13 +306,20 @@ fn a_large_migration_goes_on(rt: HostRuntime) {
     let mut journal = stands(&rt, alloc, manager(&rt, alloc));
     let order = take_out(&rt, alloc, &mut journal);
     let message = taken(&rt, alloc, &order);
-    assert!(rt; !is_light(&message));
-    let give = hand(&rt, alloc, &mut journal, message, NodeId::master(2)).expect(&rt, "not given");
-    assert_eq!(rt; pairs_in(&give), COUNT as usize);
     drop(order);
-    drop(give);
+    try_given(&rt, alloc, &mut journal, message);
     // By the rules a start and an adoption for each of the two partitions, and the package once more.
-    let told = ordered(&rt, alloc, &mut journal, Local::Nudge);
-    assert_eq!(rt; told.ok().expect(&rt, "no answer"), (2, 5));
-    assert_eq!(rt; again(&rt, alloc, journal, manager(&rt, alloc)), 3);
+    let is_told = order_tells(&rt, alloc, &mut journal, Local::Nudge, (2, 5));
+    must_hold(&rt, "five messages", is_told);
+    let count = again(&rt, alloc, journal, manager(&rt, alloc));
+    must_hold(&rt, "three were taken", count == 3);
+}
+
+/// The manager gives all pairs to the other master.
+fn try_given(rt: &impl Abort, alloc: Global, journal: &mut Journal<ManagerNode>, taken: Message) {
+    must_hold(rt, "heavy", !is_light(&taken));
+    let give = hand(rt, alloc, journal, taken, NodeId::master(2));
+    let give = give.expect(rt, "not given");
+    must_hold(rt, "all pairs", pairs_in(&give) == COUNT as usize);
+    drop(give);
 }

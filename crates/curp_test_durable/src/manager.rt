@@ -1,5 +1,5 @@
 // A manager whose disk stops: what it decided is sent again once its journal is opened.
-use crate::build::{TITLE, add, begin, nudged, opened, ordered};
+use crate::build::{TITLE, add, begin, must_hold, nudge_tells, opened, order_fails, order_tells};
 use crate::damage::disk_of;
 use curp_changes::Shape;
 use curp_disk::{Disk, MemoryDisk, StopDisk};
@@ -48,39 +48,39 @@ fn recover() -> Local {
 /// The disk of a manager that began a recovery, once it stopped at the last of the four calls that keep an expiry.
 fn stopped(rt: &impl Abort, alloc: Global) -> StopDisk {
     let mut durable = begun(rt, alloc, 8);
-    assert_eq!(rt; ordered(rt, alloc, &mut durable, recover()), Ok((0, 3)));
-    assert_eq!(rt;
-        ordered(rt, alloc, &mut durable, Local::Expire(1)),
-        Err(DurableError::DiskFault)
-    );
+    let is_begun = order_tells(rt, alloc, &mut durable, recover(), (0, 3));
+    must_hold(rt, "a recovery", is_begun);
+    let fault = DurableError::DiskFault;
+    let is_told = order_fails(rt, alloc, &mut durable, Local::Expire(1), fault);
+    must_hold(rt, "the disk stops", is_told);
     durable.into_disk()
 }
 
-/// How many decisions the manager has behind a crash, and how many messages it then sends on a nudge.
-fn behind_crash(rt: &impl Abort, alloc: Global, kept: bool) -> (u64, usize) {
+/// Behind a crash the manager has so many decisions, and sends so many messages on a nudge.
+fn try_crash(rt: &impl Abort, alloc: Global, kept: bool, count: u64, sent: usize) {
     let mut disk = stopped(rt, alloc);
     disk.crash(kept);
     let mut durable = reopened(rt, alloc, disk);
-    let told = nudged(rt, alloc, &mut durable);
+    let tells = nudge_tells(rt, alloc, &mut durable, count, sent);
     drop(durable);
-    told
+    must_hold(rt, "behind a crash", tells);
 }
 
 /// The three messages of the recovery, and that of the expiry where the crash kept it.
 #[test]
 fn a_manager_sends_again_what_it_decided(rt: HostRuntime) {
     let alloc = rt.alloc();
-    assert_eq!(rt; behind_crash(&rt, alloc, true), (2, 4));
-    assert_eq!(rt; behind_crash(&rt, alloc, false), (1, 3));
+    try_crash(&rt, alloc, true, 2, 4);
+    try_crash(&rt, alloc, false, 1, 3);
 }
 
 #[test]
 fn a_manager_whose_disk_stops_is_spent(rt: HostRuntime) {
     let alloc = rt.alloc();
     let mut durable = begun(&rt, alloc, 1);
-    for error in [DurableError::DiskFault, DurableError::Spent] {
-        let told = ordered(&rt, alloc, &mut durable, Local::Nudge);
-        assert_eq!(rt; told, Err(error));
+    for why in [DurableError::DiskFault, DurableError::Spent] {
+        let is_told = order_fails(&rt, alloc, &mut durable, Local::Nudge, why);
+        must_hold(&rt, "it is spent", is_told);
     }
     drop(durable);
 }
@@ -100,10 +100,12 @@ fn error_of(rt: &impl Abort, alloc: Global, disk: MemoryDisk) -> Option<OpenErro
 fn what_is_no_journal_is_told(rt: HostRuntime) {
     let alloc = rt.alloc();
     let disk = MemoryDisk::new(alloc, &[]).expect(&rt, "no memory");
-    assert_eq!(rt; error_of(&rt, alloc, disk), Some(OpenError::NotFormatted));
+    let error = error_of(&rt, alloc, disk);
+    must_hold(&rt, "empty", error == Some(OpenError::NotFormatted));
     let disk = disk_of(&rt, alloc, b"node\x01");
+    let error = error_of(&rt, alloc, disk);
     let damaged = Some(OpenError::Damaged { place: 4 });
-    assert_eq!(rt; error_of(&rt, alloc, disk), damaged);
+    must_hold(&rt, "damaged", error == damaged);
 }
 
 /// The calls by which a node's lives are spoken of do what those of its journal do.
@@ -119,6 +121,7 @@ fn a_manager_lives_by_the_law(rt: HostRuntime) {
     assert!(rt; batch_happens(&mut durable, inputs).is_ok());
     crash_happens(&durable);
     lives_are_one_run::<ManagerNode>();
-    assert_eq!(rt; nudged(&rt, alloc, &mut durable), (1, 3));
+    let tells = nudge_tells(&rt, alloc, &mut durable, 1, 3);
     drop(durable);
+    must_hold(&rt, "its nudge", tells);
 }

@@ -1,5 +1,5 @@
 // Orders as bytes, which were written by hand: the checksum by another program.
-use crate::build::add;
+use crate::build::{add, must_hold};
 use curp_base::Shared;
 use curp_batches::{batch_in, write_arrival};
 use curp_cmd::{Command, Keeper, Key, Value};
@@ -100,16 +100,23 @@ fn orders_are_written_so(rt: HostRuntime) {
     for order in all_orders(&rt, alloc).iter() {
         write(&rt, alloc, order, &mut out);
     }
-    assert!(rt; out.into_vec().as_slice() == &ORDERS[..ORDERS.len() - 8]);
+    must_hold(&rt, "written", is_written(out.into_vec().as_slice()));
+}
+
+fn is_written(bytes: &[u8]) -> bool {
+    match ORDERS.strip_prefix(bytes) {
+        Some(checksum) => checksum.len() == 8,
+        None => false,
+    }
 }
 
 #[test]
 fn orders_are_read_back(rt: HostRuntime) {
     let wanted = all_orders(&rt, rt.alloc());
     let orders = read(&rt, rt.alloc(), &ORDERS).expect(&rt, "no batch");
-    assert_eq!(rt; orders.len(), wanted.len());
+    must_hold(&rt, "as many", orders.len() == wanted.len());
     for (one, other) in orders.iter().zip(&wanted) {
-        assert!(rt; is_same(one, other));
+        must_hold(&rt, "an order", is_same(one, other));
     }
 }
 
@@ -118,9 +125,10 @@ fn orders_are_read_back(rt: HostRuntime) {
 fn what_is_no_batch_is_told(rt: HostRuntime) {
     let alloc = rt.alloc();
     for end in 0..ORDERS.len() {
-        assert!(rt; read(&rt, alloc, &ORDERS[..end]).is_none());
+        let cut = ORDERS.get(..end).unwrap_or(&ORDERS);
+        must_hold(&rt, "cut", read(&rt, alloc, cut).is_none());
     }
     let none = [203, 242, 156, 228, 132, 34, 35, 37];
     let empty = read(&rt, alloc, &none).expect(&rt, "no batch");
-    assert!(rt; empty.is_empty());
+    must_hold(&rt, "empty", empty.is_empty());
 }

@@ -11,12 +11,14 @@ use curp_same::Same;
 use std::alloc::Global;
 use std::process::Abort;
 
+const MOST_ITEMS: u64 = 1 << 32;
+
 /// Whether each list of the entry's package is short enough for its count.
 fn has_encoding(entry: &Entry) -> bool
     ensures { IsTrue result → HasEncoding entry.now }
 {
     match entry {
-        Entry::Take { package, .. } | Entry::Give { package, .. } => package.len() < 1 << 32,
+        Entry::Take { package, .. } | Entry::Give { package, .. } => package.len() < MOST_ITEMS,
         _ => true,
     }
 }
@@ -276,10 +278,12 @@ fn packed(rt: &impl Abort, alloc: Global, entries: &[Entry]) -> Vec<u8> {
     bytes
 }
 
+/// 22, 78, 37 and 5 bytes, so many times.
+const MANY: usize = 2_500 * 142;
+
 fn try_many(rt: &impl Abort, alloc: Global, entries: &[Entry]) {
     let bytes = packed(rt, alloc, entries);
-    // 22, 78, 37 and 5 bytes
-    must_hold(rt, "many", "length", bytes.len() == 2_500 * 142);
+    must_hold(rt, "many", "length", bytes.len() == MANY);
     must_hold(rt, "many", "read", are_read(alloc, entries, &bytes));
 }
 
@@ -290,11 +294,12 @@ fn ten_thousand_entries_are_read_back(rt: HostRuntime) {
     drop(entries);
 }
 
+const LARGEST: usize = 1 + 12 + 2 + 4 * 162 + 4;
+
 fn try_largest(rt: &impl Abort, alloc: Global, entry: &Entry) {
     let mut bytes = Vec::new(alloc);
     pack(rt, entry, &mut bytes);
-    let length = 1 + 12 + 2 + 4 * 162 + 4;
-    must_hold(rt, "largest", "length", bytes.len() == length);
+    must_hold(rt, "largest", "length", bytes.len() == LARGEST);
     must_hold(rt, "largest", "read", is_read(alloc, entry, &bytes));
     must_hold(rt, "largest", "request", has_its_request(entry, &bytes));
 }

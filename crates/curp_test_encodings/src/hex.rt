@@ -58,8 +58,8 @@ fn push_word(bytes: &mut Vec<u8>, word: &str) -> Result<(), NoMemory> {
 
 fn value_of(digit: u8) -> u8 {
     match digit {
-        b'0'..=b'9' => digit - b'0',
-        b'a'..=b'f' => digit - b'a' + 10,
+        b'0'..=b'9' => digit.wrapping_sub(b'0'),
+        b'a'..=b'f' => digit.wrapping_sub(b'a').wrapping_add(10),
         _ => 0,
     }
 }

@@ -63,8 +63,11 @@ fn more_requests_of_a_witness(rt: HostRuntime) {
 
 /// A key of 32 bytes that begins with the number.
 fn numbered(rt: &impl Abort, number: u32) -> Key {
-    let mut bytes = [255; 32];
-    bytes[..4].copy_from_slice(&number.to_be_bytes());
+    let [a, b, c, d] = number.to_be_bytes();
+    let bytes = [
+        a, b, c, d, 255, 255, 255, 255, 255, 255, 255, 255, 255, 255, 255, 255, 255, 255, 255, 255,
+        255, 255, 255, 255, 255, 255, 255, 255, 255, 255, 255, 255,
+    ];
     key(rt, &bytes)
 }
 

@@ -9,7 +9,6 @@ use curp_master::Master;
 use curp_model::Check;
 use curp_msg::{Body, Message};
 use std::alloc::Global;
-use std::fmt::Debug;
 use std::process::Abort;
 
 // The hash of "a", as the authors of FNV published it.
@@ -17,7 +16,9 @@ pub(crate) const A: u64 = 0xaf63dc4c8601ec8c;
 
 // A test ends where it isn't so, and says what wasn't.
 pub(crate) fn right(rt: &impl Abort, so: bool, what: &str) {
-    assert!(rt; so, "{what}");
+    if !so {
+        rt.panic(what)
+    }
 }
 
 // The same of one of several, told by its place.
@@ -25,8 +26,11 @@ pub(crate) fn right_at(rt: &impl Abort, so: bool, what: &str, place: u64) {
     assert!(rt; so, "{what}, at {place}");
 }
 
-pub(crate) fn must<T, E: Debug>(rt: &impl Abort, answer: Result<T, E>) -> T {
-    answer.expect(rt, "an error")
+pub(crate) fn must<T, E: Drop>(rt: &impl Abort, answer: Result<T, E>) -> T {
+    match answer {
+        Ok(value) => value,
+        Err(_) => rt.panic("an error"),
+    }
 }
 
 // There is room then: a call that asks for it may be made.
@@ -73,7 +77,7 @@ pub(crate) fn op(rt: &impl Abort, alloc: Global, request: &Request, acknowledge:
 pub(crate) fn held(rt: &impl Abort, alloc: Global, package: Package) -> Shared<Package> {
     match Shared::new(alloc, package) {
         Ok(held) => held,
-        Err(_) => panic!(rt; "no memory"),
+        Err(_) => rt.panic("no memory"),
     }
 }
 
@@ -90,7 +94,7 @@ pub(crate) fn push(rt: &impl Abort, log: &mut Log, entry: Entry) -> u64 {
         Entry::Op { request, .. } => {
             assert!(rt; log.check(&request.id) == Check::New && log.owns(&request.command));
         }
-        Entry::Take { .. } => panic!(rt; "a range that leaves"),
+        Entry::Take { .. } => rt.panic("a range that leaves"),
         _ => {}
     }
     log.push(entry)

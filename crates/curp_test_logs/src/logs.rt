@@ -97,11 +97,15 @@ const DONE: [Row; 5] = [
     (3, 1, Known::New),
 ];
 
+fn number(number: u64) -> Value {
+    Value::from_number(number)
+}
+
 #[test]
 fn tells_what_was_done(rt: HostRuntime) {
     let log = three_ops(&rt, rt.alloc());
     try_checks(&rt, &log, &DONE);
-    try_key(&rt, &log, b"a", Some(Value::from_number(1)));
+    try_key(&rt, &log, b"a", Some(number(1)));
     drop(log);
 }
 
@@ -379,12 +383,17 @@ fn thirty_thousand(rt: &impl Abort, alloc: Global) -> Master {
     master
 }
 
+fn nth_op(rt: &impl Abort, alloc: Global, seq: u32) -> Entry {
+    let [a, b, c, d] = seq.to_be_bytes();
+    let put = put(rt, &[a, b, c, d, 0, 0, 0, 0], &[7; 128]);
+    let client = (seq / 5_000).wrapping_add(1);
+    op(rt, alloc, &request(client, seq, put), 0)
+}
+
 fn many_ops(rt: &impl Abort, alloc: Global) -> Log {
     let mut log = begin(rt, alloc, u64::MAX);
     for seq in 1..=29_998u32 {
-        let name = (u64::from(seq) << 32).to_be_bytes();
-        let request = request(1 + seq / 5_000, seq, put(rt, &name, &[7; 128]));
-        push(rt, &mut log, op(rt, alloc, &request, 0));
+        push(rt, &mut log, nth_op(rt, alloc, seq));
     }
     log
 }
@@ -400,7 +409,7 @@ fn given_last(rt: &impl Abort, alloc: Global, log: &Log) -> Log {
     let mut other = begin(rt, alloc, 0);
     match log.package() {
         Some(taken) => push_give(rt, &mut other, 1, must(rt, taken.package.share())),
-        None => panic!(rt; "no range left"),
+        None => rt.panic("no range left"),
     }
     other
 }

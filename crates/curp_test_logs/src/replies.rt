@@ -201,7 +201,7 @@ fn try_records(rt: &impl Abort, table: Table, count: usize) {
 fn thirty_two_thousand(rt: &impl Abort, alloc: Global) -> Table {
     let mut table = Table::new(alloc);
     for number in 0..32_000_u32 {
-        let id = id(number / 500, number % 500 + 1);
+        let id = id(number / 500, (number % 500).wrapping_add(1));
         finish(rt, &mut table, id, u64::from(number));
     }
     for client in 0..64 {

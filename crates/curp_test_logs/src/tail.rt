@@ -94,8 +94,8 @@ fn try_covers(rt: &impl Abort, tail: &Tail, command: &Command, dirty: bool) {
 }
 
 fn try_length(rt: &impl Abort, tail: &Tail, dirty: [bool; 7]) {
-    for at in 0..7 {
-        try_dirty(rt, tail, HASHES[at], dirty[at]);
+    for (hash, dirty) in HASHES.iter().zip(&dirty) {
+        try_dirty(rt, tail, *hash, *dirty);
     }
     try_covers(rt, tail, &Command::Get(key(rt, b"a")), dirty[0]);
     try_covers(rt, tail, &put_both(rt, b"a", b"c"), dirty[2]);

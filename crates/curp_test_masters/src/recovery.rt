@@ -156,7 +156,7 @@ fn replays_behind_the_log(rt: HostRuntime) {
 fn finished(rt: &impl Abort, recovery: Recovery) -> Log {
     match recovery.finish() {
         Ok(log) => log,
-        Err(_) => panic!(rt; "not finished"),
+        Err(_) => rt.panic("not finished"),
     }
 }
 

@@ -5,12 +5,13 @@ ghost use Rattle.std.specs.Prelude.{◌≡◌, Ok};
 use curp_base::{NoMemory, Shared};
 use curp_cmd::{Command, Key, Request, RequestId, Value};
 use std::alloc::Global;
-use std::fmt::Debug;
 use std::process::Abort;
 
 // A test ends where it isn't so, and says what wasn't.
 pub(crate) fn right(rt: &impl Abort, so: bool, what: &str) {
-    assert!(rt; so, "{what}");
+    if !so {
+        rt.panic(what)
+    }
 }
 
 // The same of one of several, told by its place.
@@ -18,8 +19,11 @@ pub(crate) fn right_at(rt: &impl Abort, so: bool, what: &str, place: u64) {
     assert!(rt; so, "{what}, at {place}");
 }
 
-pub(crate) fn must<T, E: Debug>(rt: &impl Abort, answer: Result<T, E>) -> T {
-    answer.expect(rt, "an error")
+pub(crate) fn must<T, E: Drop>(rt: &impl Abort, answer: Result<T, E>) -> T {
+    match answer {
+        Ok(value) => value,
+        Err(_) => rt.panic("an error"),
+    }
 }
 
 // There is room then: a call that asks for it may be made.

@@ -98,14 +98,14 @@ fn package(rt: &impl Abort, alloc: Global) -> Shared<Package> {
     };
     match Shared::new(alloc, package) {
         Ok(shared) => shared,
-        Err(_) => panic!(rt; "no memory"),
+        Err(_) => rt.panic("no memory"),
     }
 }
 
 fn boxed<T: Drop>(rt: &impl Abort, alloc: Global, value: T) -> Boxed<T> {
     match Boxed::new(alloc, value) {
         Ok(boxed) => boxed,
-        Err(_) => panic!(rt; "no memory"),
+        Err(_) => rt.panic("no memory"),
     }
 }
 

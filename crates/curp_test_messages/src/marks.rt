@@ -260,7 +260,7 @@ fn thirty_thousand(rt: &impl Abort, alloc: Global) -> Line {
         executed(rt, alloc, &mut line, n % 2, u64::from(n / 2), nth(n));
     }
     for n in 0..7_500_u32 {
-        updated(&mut line, nth(4 * n));
+        updated(&mut line, nth(n.wrapping_mul(4)));
     }
     line
 }
@@ -269,13 +269,18 @@ fn thirty_thousand(rt: &impl Abort, alloc: Global) -> Line {
 // these are replayed, each by a master of its own, and with it one that completed.
 fn adopt_all(rt: &impl Abort, alloc: Global, line: &mut Line) {
     for n in 0..64_u32 {
-        let both = [nth(29_998 - 4 * n), nth(29_996 - 4 * n)];
+        let before = n.wrapping_mul(4);
+        let both = [
+            nth(29_998_u32.wrapping_sub(before)),
+            nth(29_996_u32.wrapping_sub(before)),
+        ];
         let term = Term {
             master: SECOND,
             part: 0,
-            epoch: 2 + n,
+            epoch: n.wrapping_add(2),
         };
-        adopt_ids(rt, alloc, line, (term, u64::from(1_000 + n)), &both);
+        let cut = u64::from(n.wrapping_add(1_000));
+        adopt_ids(rt, alloc, line, (term, cut), &both);
     }
 }
 

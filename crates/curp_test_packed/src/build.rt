@@ -9,12 +9,13 @@ use curp_master::Master;
 use curp_model::Check;
 use curp_msg::{Body, Message};
 use std::alloc::Global;
-use std::fmt::Debug;
 use std::process::Abort;
 
 // A test ends where it isn't so, and says what wasn't.
 pub(crate) fn right(rt: &impl Abort, so: bool, what: &str) {
-    assert!(rt; so, "{what}");
+    if !so {
+        rt.panic(what)
+    }
 }
 
 // The same of one of several, told by its place.
@@ -22,8 +23,11 @@ pub(crate) fn right_at(rt: &impl Abort, so: bool, what: &str, place: u64) {
     assert!(rt; so, "{what}, at {place}");
 }
 
-pub(crate) fn must<T, E: Debug>(rt: &impl Abort, answer: Result<T, E>) -> T {
-    answer.expect(rt, "an error")
+pub(crate) fn must<T, E: Drop>(rt: &impl Abort, answer: Result<T, E>) -> T {
+    match answer {
+        Ok(value) => value,
+        Err(_) => rt.panic("an error"),
+    }
 }
 
 // There is room then: a call that asks for it may be made.
@@ -75,7 +79,7 @@ pub(crate) fn push(rt: &impl Abort, log: &mut Log, entry: Entry) -> u64 {
         Entry::Op { request, .. } => {
             assert!(rt; log.check(&request.id) == Check::New && log.owns(&request.command));
         }
-        Entry::Take { .. } => panic!(rt; "a range that leaves"),
+        Entry::Take { .. } => rt.panic("a range that leaves"),
         _ => {}
     }
     log.push(entry)

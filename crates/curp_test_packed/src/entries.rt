@@ -66,14 +66,16 @@ const PACKAGE: &[u8] = b"\x00\x00\x00\x00\x00\x00\x00\x00\x00\x00\x00\x00\x00\x0
     \x00\x00\x00\x01\x00\x00\x00\x04";
 
 fn encode(rt: &impl Abort, number: u32, bytes: &mut Vec<u8>) {
-    let number_bytes = number.to_be_bytes();
-    let own = number_bytes.as_slice();
-    let parts = match number % 4 {
-        0 => [OP, own, PUT, own, VALUE, own],
-        1 => [TAKE, own, PACKAGE, b"", b"", b""],
-        2 => [GIVE, own, PACKAGE, b"", b"", b""],
-        _ => [EXPIRE, own, b"", b"", b"", b""],
-    };
+    let own = number.to_be_bytes();
+    match number % 4 {
+        0 => add_all(rt, bytes, &[OP, &own, PUT, &own, VALUE, &own]),
+        1 => add_all(rt, bytes, &[TAKE, &own, PACKAGE]),
+        2 => add_all(rt, bytes, &[GIVE, &own, PACKAGE]),
+        _ => add_all(rt, bytes, &[EXPIRE, &own]),
+    }
+}
+
+fn add_all(rt: &impl Abort, bytes: &mut Vec<u8>, parts: &[&[u8]]) {
     for part in parts {
         must(rt, bytes.extend_from_slice(part));
     }
@@ -187,8 +189,8 @@ const ENDS: [u64; 3] = [65, 9_920, 9_921];
 // The plain entries from an index on, as far as another.
 pub(crate) fn part(entries: &[Entry], start: u64, end: u64) -> &[Entry] {
     let rest = past(entries, start);
-    let count = end.saturating_sub(start).min(rest.len() as u64);
-    &rest[..count as usize]
+    let count = end.saturating_sub(start) as usize;
+    rest.get(..count).unwrap_or(rest)
 }
 
 fn try_rest(rt: &impl Abort, kept: &PackedEntries, plain: &[Entry], start: u64) {
@@ -387,14 +389,12 @@ fn packs_the_largest_operations(rt: HostRuntime) {
     drop(plain);
 }
 
+const LARGEST: usize = 64 * (1 + 12 + 2 + 4 * (33 + 129) + 4);
+
 fn try_largest(rt: &impl Abort, kept: &PackedEntries) {
     let (packed, bytes) = kept.packed();
     right(rt, packed == 64, "largest (1)");
-    right(
-        rt,
-        bytes.len() == 64 * (1 + 12 + 2 + 4 * (33 + 129) + 4),
-        "largest (2)",
-    );
+    right(rt, bytes.len() == LARGEST, "largest (2)");
 }
 
 fn many_pairs(rt: &impl Abort, alloc: Global, count: u32) -> Vec<(Key, Value)> {
@@ -471,15 +471,14 @@ fn packs_a_package_of_ten_thousand_pairs(rt: HostRuntime) {
     drop(plain);
 }
 
+// A tag, a migration, two hashes, and four counts with their items.
+const LARGE: usize = 1 + 4 + 16 + 4 * 4 + 10_000 * (5 + 129 + 9 + 8 + 4);
+
 fn try_large(rt: &impl Abort, alloc: Global, kept: &PackedEntries) {
     let (packed, bytes) = kept.packed();
     right(rt, packed == 64, "large");
-    // A tag, a migration, two hashes, and four counts with their items, before the others.
-    let first = 1 + 4 + 16 + 4 * 4 + 10_000 * (5 + 129 + 9 + 8 + 4);
-    match bytes.get(first..) {
-        Some(rest) => try_encoded_rest(rt, alloc, rest),
-        None => panic!(rt; "too few bytes"),
-    }
+    let rest = bytes.get(LARGE..).unwrap_or(b"");
+    try_encoded_rest(rt, alloc, rest);
 }
 
 fn try_encoded_rest(rt: &impl Abort, alloc: Global, found: &[u8]) {

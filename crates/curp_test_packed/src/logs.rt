@@ -210,7 +210,7 @@ fn is_told(package: &Shared<Package>, taken: TakenPackage) -> bool {
 fn try_taken(rt: &impl Abort, log: &Log) {
     match must(rt, log.entry(9_849)) {
         Some(entry) => right(rt, is_taken(&entry, log.package()), "taken"),
-        None => panic!(rt; "no range left"),
+        None => rt.panic("no range left"),
     }
 }
 

@@ -24,33 +24,30 @@ pub(crate) fn gone(rt: &impl Abort, clients: Vec<u32>) -> AscendingKeys<u32> {
 pub(crate) fn held(rt: &impl Abort, alloc: Global, package: Package) -> Shared<Package> {
     match Shared::new(alloc, package) {
         Ok(held) => held,
-        Err(_) => panic!(rt; "no memory"),
+        Err(_) => rt.panic("no memory"),
     }
 }
 
-fn records(rt: &impl Abort, alloc: Global) -> Vec<(RequestId, Answer)> {
-    let mut records = Vec::new(alloc);
-    for (client, seq) in [(1, 9), (2, 3), (2, 4)] {
-        must(rt, records.push((RequestId { client, seq }, Answer::Done)));
-    }
-    records
-}
+const RECORDS: [(RequestId, Answer); 3] = [
+    (RequestId { client: 1, seq: 9 }, Answer::Done),
+    (RequestId { client: 2, seq: 3 }, Answer::Done),
+    (RequestId { client: 2, seq: 4 }, Answer::Done),
+];
 
 fn table_part(rt: &impl Abort, alloc: Global) -> TablePart {
+    let records = must(rt, Vec::from_slice(alloc, &RECORDS));
     let firsts = must(rt, Vec::from_slice(alloc, &[(1, 9), (2, 3)]));
     TablePart {
-        records: ascending(rt, records(rt, alloc)),
+        records: ascending(rt, records),
         firsts: ascending(rt, firsts),
         gone: gone(rt, must(rt, Vec::from_slice(alloc, &[4]))),
     }
 }
 
 fn pairs(rt: &impl Abort, alloc: Global) -> Vec<(Key, Value)> {
-    let mut pairs = Vec::new(alloc);
-    for name in [b"a", b"b"] {
-        must(rt, pairs.push((key(rt, name), value(rt, b"1"))));
-    }
-    pairs
+    let one = value(rt, b"1");
+    let pairs = [(key(rt, b"a"), one), (key(rt, b"b"), one)];
+    must(rt, Vec::from_slice(alloc, &pairs))
 }
 
 // Two pairs, three records, two firsts and an expired client.

@@ -1,5 +1,5 @@
 // What connections are told, by texts that were written by hand.
-use crate::texts::found;
+use crate::texts::{found, must_hold, must_hold_at, repeated};
 use curp_base::NoMemory;
 use curp_cmd::{Answer, RequestId};
 use curp_front::{
@@ -17,32 +17,48 @@ const PING: &[u8] = b"*1\r\n$4\r\nPING\r\n";
 
 // ---- what is called, of which the tests know nothing
 
-fn came(rt: &impl Abort, fronts: &mut Fronts, connection: u64, bytes: &[u8]) {
-    let admitted = fronts.on_bytes(connection, bytes).expect(rt, "no memory");
-    assert!(rt; admitted == Admitted::Taken, "taken");
+fn comes(fronts: &mut Fronts, connection: u64, bytes: &[u8]) -> bool {
+    match fronts.on_bytes(connection, bytes) {
+        Ok(admitted) => admitted == Admitted::Taken,
+        Err(_) => false,
+    }
+}
+
+fn closes(fronts: &mut Fronts, connection: u64) -> bool {
+    fronts.on_closed(connection);
+    true
 }
 
 fn id(seq: u32) -> RequestId {
     RequestId { client: 1, seq }
 }
 
-/// The connection whose command is next, and which is invoked under that number; 0 where there is none.
-fn invoked(rt: &impl Abort, fronts: &mut Fronts, pending: usize, seq: u32) -> u64 {
-    match fronts.next_command(pending).expect(rt, "no memory") {
-        Some((connection, _)) => {
+/// Whether that connection's command is next, and is invoked under that number. The connection is 0 where there is none.
+fn invokes(fronts: &mut Fronts, pending: usize, seq: u32, wanted: u64) -> bool {
+    match fronts.next_command(pending) {
+        Ok(Some((connection, _))) => {
             fronts.on_invoked(connection, id(seq));
-            connection
+            connection == wanted
         }
-        None => 0,
+        Ok(None) => wanted == 0,
+        Err(_) => false,
     }
 }
 
-/// The connection whose command is to be invoked next.
-fn given(rt: &impl Abort, fronts: &mut Fronts) -> u64 {
-    match fronts.next_command(0).expect(rt, "no memory") {
-        Some((connection, _)) => connection,
-        None => 0,
+/// Whether that connection's command is next. It is refused.
+fn refuses(fronts: &mut Fronts, wanted: u64) -> bool {
+    match fronts.next_command(0) {
+        Ok(Some((connection, _))) => {
+            fronts.on_refused(connection, InvokeRefusal::Split);
+            connection == wanted
+        }
+        _ => false,
     }
+}
+
+fn completes(fronts: &mut Fronts, seq: u32, answer: Answer) -> bool {
+    fronts.on_completed(id(seq), &answer);
+    true
 }
 
 fn output(rt: &impl Abort, fronts: &mut Fronts) -> Option<FrontOutput> {
@@ -80,144 +96,189 @@ fn digit(connection: u64) -> u8 {
     b'0' + (connection % 10) as u8
 }
 
-fn tells(rt: &impl Abort, alloc: Global, fronts: &mut Fronts, wanted: &str) {
+fn tells(rt: &impl Abort, alloc: Global, fronts: &mut Fronts, wanted: &str) -> bool {
     let text = told(rt, alloc, fronts);
-    assert!(rt; text.as_slice() == wanted.as_bytes(), "{wanted}");
+    text.as_slice() == wanted.as_bytes()
 }
 
-// ---- tests
+// ---- what comes to the connections, or is asked of them, in tables
+
+enum Row {
+    /// Bytes of that connection come.
+    Comes(u64, &'static [u8]),
+    /// No more bytes of that connection come.
+    Closes(u64),
+    /// With so many requests pending, the command that is next is invoked under that number: of which connection it is.
+    Invokes(usize, u32, u64),
+    /// The command that is next, of that connection, is refused.
+    Refuses(u64),
+    /// The request of that number is done.
+    Done(u32),
+    /// The request of that number found that.
+    Finds(u32, &'static [u8]),
+    FindsNone(u32),
+    /// All that is told now.
+    Tells(&'static str),
+    /// How many connections there are.
+    Has(usize),
+}
+
+fn holds(rt: &impl Abort, alloc: Global, fronts: &mut Fronts, row: &Row) -> bool {
+    match row {
+        Row::Comes(connection, bytes) => comes(fronts, *connection, bytes),
+        Row::Closes(connection) => closes(fronts, *connection),
+        Row::Invokes(pending, seq, connection) => invokes(fronts, *pending, *seq, *connection),
+        Row::Refuses(connection) => refuses(fronts, *connection),
+        Row::Done(seq) => completes(fronts, *seq, Answer::Done),
+        Row::Finds(seq, value) => completes(fronts, *seq, found(value)),
+        Row::FindsNone(seq) => completes(fronts, *seq, Answer::Found(None)),
+        Row::Tells(wanted) => tells(rt, alloc, fronts, wanted),
+        Row::Has(count) => fronts.len() == *count,
+    }
+}
+
+fn try_on(rt: &impl Abort, alloc: Global, fronts: &mut Fronts, rows: &[Row]) {
+    for (place, row) in rows.iter().enumerate() {
+        must_hold_at(rt, place, holds(rt, alloc, fronts, row));
+    }
+}
+
+fn try_rows(rt: &impl Abort, alloc: Global, rows: &[Row]) {
+    let mut fronts = Fronts::new(alloc);
+    try_on(rt, alloc, &mut fronts, rows);
+    drop(fronts);
+}
+
+static IN_ORDER: [Row; 15] = [
+    Row::Comes(1, SET),
+    Row::Comes(1, PING),
+    Row::Comes(1, GET),
+    Row::Comes(1, GET),
+    Row::Invokes(0, 1, 1),
+    // no command stands behind it
+    Row::Invokes(1, 2, 0),
+    Row::Tells(""),
+    Row::Done(1),
+    Row::Tells("1+OK\r\n1-ERR unknown command\r\n"),
+    Row::Invokes(0, 2, 1),
+    Row::Invokes(1, 3, 1),
+    Row::Finds(3, b"2"),
+    Row::Tells("1more\r\n"),
+    Row::Finds(2, b"1"),
+    Row::Tells("1$1\r\n1\r\n1$1\r\n2\r\n"),
+];
 
 #[test]
 fn replies_stand_in_the_order_of_requests(rt: HostRuntime) {
-    let alloc = rt.alloc();
-    let mut fronts = Fronts::new(alloc);
-    came(&rt, &mut fronts, 1, SET);
-    came(&rt, &mut fronts, 1, PING);
-    came(&rt, &mut fronts, 1, GET);
-    came(&rt, &mut fronts, 1, GET);
-    assert!(rt; invoked(&rt, &mut fronts, 0, 1) == 1, "the first");
-    assert!(rt;
-        invoked(&rt, &mut fronts, 1, 2) == 0,
-        "no command behind it"
-    );
-    tells(&rt, alloc, &mut fronts, "");
-    fronts.on_completed(id(1), &Answer::Done);
-    tells(&rt, alloc, &mut fronts, "1+OK\r\n1-ERR unknown command\r\n");
-    assert!(rt; invoked(&rt, &mut fronts, 0, 2) == 1, "the second");
-    assert!(rt; invoked(&rt, &mut fronts, 1, 3) == 1, "the third");
-    fronts.on_completed(id(3), &found(b"2"));
-    tells(&rt, alloc, &mut fronts, "1more\r\n");
-    fronts.on_completed(id(2), &found(b"1"));
-    tells(&rt, alloc, &mut fronts, "1$1\r\n1\r\n1$1\r\n2\r\n");
-    drop(fronts);
+    try_rows(&rt, rt.alloc(), &IN_ORDER);
 }
+
+static EMPTY_LINES: [Row; 11] = [
+    Row::Comes(1, b"\r\n\r"),
+    Row::Comes(1, b"\n"),
+    Row::Comes(1, SET),
+    Row::Comes(1, b"\r\n*2\r\n$4\r\nECHO\r\n$2\r\nab\r\n"),
+    Row::Tells("11"),
+    Row::Invokes(0, 1, 1),
+    Row::Tells(""),
+    Row::Done(1),
+    Row::Tells("1+OK\r\n11$2\r\nab\r\n1more\r\n"),
+    Row::Closes(1),
+    Row::Tells("1close\r\n"),
+];
 
 #[test]
 fn empty_line_is_passed_over(rt: HostRuntime) {
-    let alloc = rt.alloc();
-    let mut fronts = Fronts::new(alloc);
-    came(&rt, &mut fronts, 1, b"\r\n\r");
-    came(&rt, &mut fronts, 1, b"\n");
-    came(&rt, &mut fronts, 1, SET);
-    came(&rt, &mut fronts, 1, b"\r\n*2\r\n$4\r\nECHO\r\n$2\r\nab\r\n");
-    tells(&rt, alloc, &mut fronts, "11");
-    assert!(rt; invoked(&rt, &mut fronts, 0, 1) == 1, "the command");
-    tells(&rt, alloc, &mut fronts, "");
-    fronts.on_completed(id(1), &Answer::Done);
-    tells(&rt, alloc, &mut fronts, "1+OK\r\n11$2\r\nab\r\n1more\r\n");
-    fronts.on_closed(1);
-    tells(&rt, alloc, &mut fronts, "1close\r\n");
-    drop(fronts);
+    try_rows(&rt, rt.alloc(), &EMPTY_LINES);
 }
+
+static BAD_REQUEST: [Row; 11] = [
+    Row::Comes(1, PING),
+    Row::Comes(1, b"hello"),
+    Row::Comes(2, GET),
+    Row::Tells("1-ERR unknown command\r\n1-ERR protocol\r\n1close\r\n"),
+    Row::Comes(1, PING),
+    Row::Tells(""),
+    Row::Invokes(0, 1, 2),
+    Row::Finds(1, b"1"),
+    Row::Tells("2more\r\n2$1\r\n1\r\n"),
+    Row::Closes(1),
+    // it is forgotten
+    Row::Has(1),
+];
 
 #[test]
 fn bad_request_ends_its_connection_alone(rt: HostRuntime) {
-    let alloc = rt.alloc();
-    let mut fronts = Fronts::new(alloc);
-    came(&rt, &mut fronts, 1, PING);
-    came(&rt, &mut fronts, 1, b"hello");
-    came(&rt, &mut fronts, 2, GET);
-    tells(
-        &rt,
-        alloc,
-        &mut fronts,
-        "1-ERR unknown command\r\n1-ERR protocol\r\n1close\r\n",
-    );
-    came(&rt, &mut fronts, 1, PING);
-    tells(&rt, alloc, &mut fronts, "");
-    assert!(rt; invoked(&rt, &mut fronts, 0, 1) == 2, "the other");
-    fronts.on_completed(id(1), &found(b"1"));
-    tells(&rt, alloc, &mut fronts, "2more\r\n2$1\r\n1\r\n");
-    fronts.on_closed(1);
-    assert!(rt; fronts.len() == 1, "forgotten");
-    drop(fronts);
+    try_rows(&rt, rt.alloc(), &BAD_REQUEST);
 }
+
+static ENDS: [Row; 12] = [
+    Row::Comes(1, GET),
+    Row::Closes(1),
+    Row::Invokes(0, 1, 1),
+    Row::Tells(""),
+    Row::FindsNone(1),
+    Row::Tells("1$-1\r\n1close\r\n"),
+    Row::Has(0),
+    Row::Comes(2, b"*2\r\n"),
+    Row::Tells("2more\r\n"),
+    Row::Closes(2),
+    Row::Tells("2-ERR protocol\r\n2close\r\n"),
+    Row::Has(0),
+];
 
 #[test]
 fn what_came_before_an_end_is_answered(rt: HostRuntime) {
-    let alloc = rt.alloc();
-    let mut fronts = Fronts::new(alloc);
-    came(&rt, &mut fronts, 1, GET);
-    fronts.on_closed(1);
-    assert!(rt; invoked(&rt, &mut fronts, 0, 1) == 1, "it");
-    tells(&rt, alloc, &mut fronts, "");
-    fronts.on_completed(id(1), &Answer::Found(None));
-    tells(&rt, alloc, &mut fronts, "1$-1\r\n1close\r\n");
-    assert!(rt; fronts.len() == 0, "forgotten");
-    came(&rt, &mut fronts, 2, b"*2\r\n");
-    tells(&rt, alloc, &mut fronts, "2more\r\n");
-    fronts.on_closed(2);
-    tells(&rt, alloc, &mut fronts, "2-ERR protocol\r\n2close\r\n");
-    assert!(rt; fronts.len() == 0, "forgotten too");
-    drop(fronts);
+    try_rows(&rt, rt.alloc(), &ENDS);
 }
+
+static TURNS: [Row; 8] = [
+    Row::Comes(1, GET),
+    Row::Comes(1, GET),
+    Row::Comes(1, GET),
+    Row::Comes(2, GET),
+    Row::Invokes(0, 1, 1),
+    Row::Invokes(1, 2, 2),
+    // none is given at 8
+    Row::Invokes(8, 3, 0),
+    Row::Invokes(7, 3, 1),
+];
 
 #[test]
 fn connections_take_turns(rt: HostRuntime) {
-    let alloc = rt.alloc();
-    let mut fronts = Fronts::new(alloc);
-    came(&rt, &mut fronts, 1, GET);
-    came(&rt, &mut fronts, 1, GET);
-    came(&rt, &mut fronts, 1, GET);
-    came(&rt, &mut fronts, 2, GET);
-    assert!(rt; invoked(&rt, &mut fronts, 0, 1) == 1, "one");
-    assert!(rt; invoked(&rt, &mut fronts, 1, 2) == 2, "the other");
-    assert!(rt; invoked(&rt, &mut fronts, 8, 3) == 0, "none at 8");
-    assert!(rt; invoked(&rt, &mut fronts, 7, 3) == 1, "one at 7");
-    drop(fronts);
+    try_rows(&rt, rt.alloc(), &TURNS);
 }
+
+static REFUSED: [Row; 3] = [
+    Row::Comes(1, SET),
+    Row::Refuses(1),
+    Row::Tells("1more\r\n1-ERR keys of several partitions\r\n"),
+];
 
 #[test]
 fn refused_command_has_its_reply(rt: HostRuntime) {
-    let alloc = rt.alloc();
-    let mut fronts = Fronts::new(alloc);
-    came(&rt, &mut fronts, 1, SET);
-    assert!(rt; given(&rt, &mut fronts) == 1, "given");
-    fronts.on_refused(1, InvokeRefusal::Split);
-    tells(
-        &rt,
-        alloc,
-        &mut fronts,
-        "1more\r\n1-ERR keys of several partitions\r\n",
-    );
-    drop(fronts);
+    try_rows(&rt, rt.alloc(), &REFUSED);
 }
+
+static TOO_MANY: [Row; 1] = [Row::Tells(
+    "1-ERR unknown command\r\n1-ERR too many bytes\r\n1close\r\n",
+)];
 
 #[test]
 fn more_bytes_than_may_wait_end_a_connection(rt: HostRuntime) {
-    let alloc = rt.alloc();
-    let mut fronts = Fronts::new(alloc);
-    let many = vec![in alloc; b'0'; 131_060].expect(&rt, "no memory");
-    came(&rt, &mut fronts, 1, PING);
-    came(&rt, &mut fronts, 1, &many);
-    tells(
-        &rt,
-        alloc,
-        &mut fronts,
-        "1-ERR unknown command\r\n1-ERR too many bytes\r\n1close\r\n",
-    );
+    let mut fronts = Fronts::new(rt.alloc());
+    try_many(&rt, rt.alloc(), &mut fronts);
     drop(fronts);
 }
+
+fn try_many(rt: &impl Abort, alloc: Global, fronts: &mut Fronts) {
+    let many = repeated(rt, alloc, "0", 131_060);
+    must_hold(rt, "a request", comes(fronts, 1, PING));
+    must_hold(rt, "many bytes", comes(fronts, 1, many.as_bytes()));
+    try_on(rt, alloc, fronts, &TOO_MANY);
+}
+
+// ---- parcels
 
 fn parcel(rt: &impl Abort, alloc: Global, output: &FrontOutput) -> Vec<u8> {
     let mut text = Vec::new(alloc);
@@ -226,33 +287,41 @@ fn parcel(rt: &impl Abort, alloc: Global, output: &FrontOutput) -> Vec<u8> {
     text
 }
 
-fn input(rt: &impl Abort, alloc: Global, content: &[u8]) -> Option<FrontInput> {
-    front_input_in(alloc, content).expect(rt, "no memory")
+fn try_parcel(rt: &impl Abort, alloc: Global, output: FrontOutput, bytes: &[u8]) {
+    let text = parcel(rt, alloc, &output);
+    drop(output);
+    must_hold(rt, "a parcel", text.as_slice() == bytes);
 }
 
 #[test]
 fn parcels_are_those_of_the_page(rt: HostRuntime) {
     let alloc = rt.alloc();
-    let close = parcel(&rt, alloc, &FrontOutput::Close { connection: 7 });
-    assert!(rt;
-        close.as_slice() == b"\0\0\0\x09\x08\0\0\0\0\0\0\0\x07".as_slice(),
-        "close"
-    );
-    let more = parcel(&rt, alloc, &FrontOutput::More { connection: 7 });
-    assert!(rt;
-        more.as_slice() == b"\0\0\0\x09\x09\0\0\0\0\0\0\0\x07".as_slice(),
-        "more"
-    );
-    let closed = input(&rt, alloc, &[3, 0, 0, 0, 0, 0, 0, 0, 7]);
-    assert!(rt;
-        matches!(closed, Some(FrontInput::Closed { connection: 7 })),
-        "closed"
-    );
-    let bytes = input(&rt, alloc, &[2, 0, 0, 0, 0, 0, 0, 0, 7, 42]);
-    assert!(rt;
-        matches!(bytes, Some(FrontInput::Bytes { connection: 7, .. })),
-        "bytes"
-    );
-    let none = input(&rt, alloc, &[3, 0, 0, 0, 0, 0, 0, 0, 7, 42]);
-    assert!(rt; none.is_none(), "none");
+    let close = FrontOutput::Close { connection: 7 };
+    try_parcel(&rt, alloc, close, b"\0\0\0\x09\x08\0\0\0\0\0\0\0\x07");
+    let more = FrontOutput::More { connection: 7 };
+    try_parcel(&rt, alloc, more, b"\0\0\0\x09\x09\0\0\0\0\0\0\0\x07");
+    try_inputs(&rt, alloc);
+}
+
+/// Whether the content tells the end of the one connection, or bytes of the other; 0 stands for none.
+fn is_input(alloc: Global, content: &[u8], closed: u64, with_bytes: u64) -> bool {
+    match &front_input_in(alloc, content) {
+        Ok(Some(FrontInput::Closed { connection })) => *connection == closed,
+        Ok(Some(FrontInput::Bytes { connection, .. })) => *connection == with_bytes,
+        Ok(None) => closed == 0 && with_bytes == 0,
+        Err(_) => false,
+    }
+}
+
+static INPUTS: [(&[u8], u64, u64); 3] = [
+    (&[3, 0, 0, 0, 0, 0, 0, 0, 7], 7, 0),
+    (&[2, 0, 0, 0, 0, 0, 0, 0, 7, 42], 0, 7),
+    (&[3, 0, 0, 0, 0, 0, 0, 0, 7, 42], 0, 0),
+];
+
+fn try_inputs(rt: &impl Abort, alloc: Global) {
+    for (content, closed, with_bytes) in &INPUTS {
+        let is_input = is_input(alloc, content, *closed, *with_bytes);
+        must_hold(rt, "an input", is_input);
+    }
 }

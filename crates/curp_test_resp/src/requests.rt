@@ -211,12 +211,17 @@ static BREAKS: [(&str, u64); 35] = [
     ("*2\r\n$1\r\na\r\n*", 11),
 ];
 
+/// Behind those requests each text breaks off at its place.
+fn try_breaks(rt: &impl Abort, alloc: Global, rows: &[(&str, u64)], before: &[NextRequest]) {
+    for (text, at) in rows {
+        let bad = NextRequest::BadRequest { at: *at };
+        try_both(rt, alloc, text, before, &bad);
+    }
+}
+
 #[test]
 fn bytes_break_off_where_no_request_goes_on(rt: HostRuntime) {
-    for (text, at) in &BREAKS {
-        let bad = NextRequest::BadRequest { at: *at };
-        try_both(&rt, rt.alloc(), text, &[], &bad);
-    }
+    try_breaks(&rt, rt.alloc(), &BREAKS, &[]);
 }
 
 /// Places behind the request of no known word that such inputs begin with.
@@ -228,10 +233,7 @@ static LATER_BREAKS: [(&str, u64); 3] = [
 
 #[test]
 fn a_place_is_counted_from_the_whole_input(rt: HostRuntime) {
-    for (text, at) in &LATER_BREAKS {
-        let bad = NextRequest::BadRequest { at: *at };
-        try_both(&rt, rt.alloc(), text, &[UNKNOWN], &bad);
-    }
+    try_breaks(&rt, rt.alloc(), &LATER_BREAKS, &[UNKNOWN]);
 }
 
 /// Requests of no arguments, as clients write them.
@@ -343,11 +345,15 @@ static WRONGS: [(&str, Wrong); 29] = [
     ("MSET a 1 b 2 c 3 b 4", Wrong::KeyTwice),
 ];
 
+fn try_wrongs(rt: &impl Abort, alloc: Global, rows: &[(&str, Wrong)]) {
+    for (words, wrong) in rows {
+        try_words(rt, alloc, words, refused(*wrong));
+    }
+}
+
 #[test]
 fn the_first_error_that_holds_is_told(rt: HostRuntime) {
-    for (words, wrong) in &WRONGS {
-        try_words(&rt, rt.alloc(), words, refused(*wrong));
-    }
+    try_wrongs(&rt, rt.alloc(), &WRONGS);
 }
 
 /// Increments that a counter doesn't have: integers of 64 bits, and what is none.
@@ -375,9 +381,7 @@ static INCREMENTS: [(&str, Wrong); 19] = [
 
 #[test]
 fn a_counter_grows_by_one_alone(rt: HostRuntime) {
-    for (words, wrong) in &INCREMENTS {
-        try_words(&rt, rt.alloc(), words, refused(*wrong));
-    }
+    try_wrongs(&rt, rt.alloc(), &INCREMENTS);
 }
 
 // ---- sizes

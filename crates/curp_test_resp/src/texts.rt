@@ -5,7 +5,14 @@ use std::process::Abort;
 
 /// Ends a test in which that doesn't hold of a row.
 pub(crate) fn must_hold(rt: &impl Abort, row: &str, holds: bool) {
-    assert!(rt; holds, "{row}");
+    if !holds {
+        rt.panic(row)
+    }
+}
+
+/// Ends a test in which that doesn't hold of the row at this place.
+pub(crate) fn must_hold_at(rt: &impl Abort, place: usize, holds: bool) {
+    assert!(rt; holds, "row {place}");
 }
 
 pub(crate) fn repeated(rt: &impl Abort, alloc: Global, text: &str, count: usize) -> String {

@@ -1,4 +1,5 @@
 // Lines from sources that fail, or that give little at a time.
+use crate::streams::must_hold;
 use curp_io::{Lines, MemorySource, NextLine, Source, SureSource};
 use std::alloc::Global;
 use std::process::Abort;
@@ -79,15 +80,12 @@ static LINES: [(&str, &str); 5] = [
 fn pieces_of_any_size_give_the_same_lines(rt: HostRuntime) {
     let (alloc, end) = (rt.alloc(), NextLine::End);
     for (text, texts) in &LINES {
-        assert!(rt; sure_gives(&rt, alloc, text, texts, end), "{texts}");
-        assert!(rt;
-            pieces_give(&rt, alloc, (text, 1), &[], texts, end),
-            "{texts}"
-        );
-        assert!(rt;
-            pieces_give(&rt, alloc, (text, 3), &[], texts, end),
-            "{texts}"
-        );
+        let at_once = sure_gives(&rt, alloc, text, texts, end);
+        must_hold(&rt, texts, at_once);
+        let bytewise = pieces_give(&rt, alloc, (text, 1), &[], texts, end);
+        must_hold(&rt, texts, bytewise);
+        let in_threes = pieces_give(&rt, alloc, (text, 3), &[], texts, end);
+        must_hold(&rt, texts, in_threes);
     }
 }
 

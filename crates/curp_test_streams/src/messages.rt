@@ -1,4 +1,5 @@
 // Texts of steps that no script brings about: messages that no node sends here, and the largest numbers.
+use crate::streams::must_hold;
 use curp_base::{Items, Shared};
 use curp_cmd::{Answer, Command, Key, NodeId, Request, RequestId, Value};
 use curp_msg::{
@@ -64,7 +65,7 @@ fn says(rt: &impl Abort, alloc: Global, body: Body, words: &str) {
     let text = text_of(rt, alloc, 3, &DONE, &sent);
     drop(sent);
     let wanted = format!(in alloc; "s3 done\nm9 C1 M2 {words}\n").expect(rt, "no memory");
-    assert!(rt; text.as_slice() == wanted.as_bytes(), "{words}");
+    must_hold(rt, words, text.as_slice() == wanted.as_bytes());
 }
 
 #[test]
@@ -141,9 +142,12 @@ fn largest_text(rt: &impl Abort, alloc: Global) -> Vec<u8> {
     text
 }
 
+const LARGEST: usize = 56 + 373 + (34 + 16384 * 22) + 29;
+
 #[test]
 fn shows_the_largest_steps(rt: HostRuntime) {
     let text = largest_text(&rt, rt.alloc());
-    assert_eq!(rt; text.len(), 56 + 373 + (34 + 16384 * 22) + 29);
-    assert!(rt; text.ends_with(b" 4294967295.4294967295\nc 4294967295.4294967295 done\n"));
+    must_hold(&rt, "its length", text.len() == LARGEST);
+    let ends = text.ends_with(b" 4294967295.4294967295\nc 4294967295.4294967295 done\n");
+    must_hold(&rt, "its end", ends);
 }

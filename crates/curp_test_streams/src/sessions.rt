@@ -1,7 +1,7 @@
 // Sessions of Redis' protocol from a source that gives a byte a call, or a request a call, or all at once.
 ghost use Rattle.std.specs.Prelude.{◌<◌};
 
-use crate::streams::{CountingSink, Ended, Failing, NONE, sink, source};
+use crate::streams::{CountingSink, Ended, Failing, NONE, must_hold, sink, source};
 use curp_io::{MemorySource, Sink};
 use curp_runner::Status;
 use curp_session::answer_requests;
@@ -37,8 +37,8 @@ fn answered(rt: &impl Abort, alloc: Global, words: &[&str], requests: &str) -> E
 /// A session by these words, one a space, has this text for the requests.
 fn try_session(rt: &impl Abort, alloc: Global, words: &[&str], requests: &str, text: &str) {
     let ended = answered(rt, alloc, words, requests);
-    assert!(rt; ended.is(Status::Ok, text), "{text}");
-    assert!(rt; ended.is_flushed(), "{text}");
+    must_hold(rt, text, ended.is(Status::Ok, text));
+    must_hold(rt, text, ended.is_flushed());
     drop(ended);
 }
 
@@ -98,7 +98,7 @@ static SELDOM: [&str; 3] = ["resp", "--every", "1000000"];
 #[test]
 fn a_recovery_may_be_seldom(rt: HostRuntime) {
     let plan = plan_of(rt.alloc(), &SELDOM).expect(&rt, "no plan");
-    assert_eq!(rt; plan.every, 1_000_000);
+    must_hold(&rt, "seldom", plan.every == 1_000_000);
 }
 
 /// The bytes of the put.
@@ -115,8 +115,8 @@ fn try_fault(rt: &impl Abort, alloc: Global, call: u64, text: &str) {
     let status = answer(alloc, &ONE_BACKUP, &mut source, &mut sink);
     drop(source);
     let ended = Ended { status, sink };
-    assert!(rt; ended.is(Status::ReadFault, text), "{text}");
-    assert!(rt; ended.is_flushed(), "{text}");
+    must_hold(rt, text, ended.is(Status::ReadFault, text));
+    must_hold(rt, text, ended.is_flushed());
     drop(ended);
 }
 
@@ -137,8 +137,8 @@ fn passed_on(rt: &impl Abort, alloc: Global, piece: usize) -> u64
     let mut sink = CountingSink::new(rt, alloc);
     let status = answer(alloc, &ONE_BACKUP, &mut source, &mut sink);
     drop(source);
-    assert!(rt; status == Status::Ok);
-    assert!(rt; sink.bytes() == REPLIES.as_bytes());
+    must_hold(rt, "it ends well", status == Status::Ok);
+    must_hold(rt, "replies", sink.bytes() == REPLIES.as_bytes());
     let passed_on = sink.passed_on();
     drop(sink);
     passed_on
@@ -148,7 +148,10 @@ fn passed_on(rt: &impl Abort, alloc: Global, piece: usize) -> u64
 #[test]
 fn replies_to_requests_that_came_together_go_out_together(rt: HostRuntime) {
     let alloc = rt.alloc();
-    assert_eq!(rt; passed_on(&rt, alloc, 1), 2);
-    assert_eq!(rt; passed_on(&rt, alloc, PUT_LENGTH), 2);
-    assert_eq!(rt; passed_on(&rt, alloc, 70_000), 1);
+    let bytewise = passed_on(&rt, alloc, 1);
+    must_hold(&rt, "a byte a call", bytewise == 2);
+    let by_request = passed_on(&rt, alloc, PUT_LENGTH);
+    must_hold(&rt, "a request a call", by_request == 2);
+    let at_once = passed_on(&rt, alloc, 70_000);
+    must_hold(&rt, "all at once", at_once == 1);
 }

@@ -2,6 +2,7 @@
 ghost use Rattle.std.specs.Prelude.{IsTrue};
 ghost use Rattle.curp_script.specs.Printed.{NamesNode};
 
+use crate::streams::must_hold;
 use curp_cmd::{Keeper, NodeId, NodeKind};
 use curp_print::print_line;
 use curp_script::{LineReader, Step};
@@ -42,8 +43,8 @@ fn is_printed(alloc: Global, step: &Step, line: &str) -> bool {
 /// A row of the tables.
 fn row(rt: &impl Abort, alloc: Global, step: Step, line: &str) {
     let mut reader = LineReader::new(alloc);
-    assert!(rt; reads_step(&mut reader, line, &step), "read: {line}");
-    assert!(rt; is_printed(alloc, &step, line), "printed: {line}");
+    must_hold(rt, line, reads_step(&mut reader, line, &step));
+    must_hold(rt, line, is_printed(alloc, &step, line));
 }
 
 #[test]

@@ -6,6 +6,13 @@ use curp_runner::Status;
 use std::alloc::Global;
 use std::process::Abort;
 
+/// Ends a test in which that doesn't hold of a row.
+pub(crate) fn must_hold(rt: &impl Abort, row: &str, holds: bool) {
+    if !holds {
+        rt.panic(row)
+    }
+}
+
 /// The numbers of the read and of the write that fail. There is no call of the number 0.
 #[derive(Clone, Copy)]
 pub(crate) struct Failing {

@@ -1,5 +1,5 @@
 // Talks: all that is to be said of what was read is passed on before the source is asked for more.
-use crate::streams::{NONE, sink};
+use crate::streams::{NONE, must_hold, sink};
 use curp_io::{Flushed, MemorySink, Put, Sink, Source, Taken};
 use curp_manage::manage_orders;
 use curp_play::{play_history, play_script};
@@ -100,16 +100,38 @@ enum Word {
     Resp(&'static [&'static str]),
 }
 
+// ---- what is called, of which the tests know nothing
+
+fn play<S: Source, K: Sink>(alloc: Global, source: &mut S, sink: &mut K) -> Status {
+    play_script(alloc, source, sink)
+}
+
+fn history<S: Source, K: Sink>(alloc: Global, source: &mut S, sink: &mut K) -> Status {
+    play_history(alloc, source, sink)
+}
+
+fn manage<S: Source, K: Sink>(alloc: Global, source: &mut S, sink: &mut K) -> Status {
+    manage_orders(alloc, source, sink)
+}
+
+fn check<S: Source, K: Sink>(alloc: Global, source: &mut S, sink: &mut K) -> Status {
+    check_claim(alloc, source, sink)
+}
+
+fn resp<S: Source, K: Sink>(alloc: Global, words: &[&str], source: &mut S, sink: &mut K) -> Status {
+    match read(alloc, words) {
+        Ok(Task::Resp(plan)) => answer_requests(alloc, &plan, source, sink),
+        _ => Status::Usage,
+    }
+}
+
 fn run<S: Source, K: Sink>(alloc: Global, word: Word, source: &mut S, sink: &mut K) -> Status {
     match word {
-        Word::Play => play_script(alloc, source, sink),
-        Word::History => play_history(alloc, source, sink),
-        Word::Manage => manage_orders(alloc, source, sink),
-        Word::Check => check_claim(alloc, source, sink),
-        Word::Resp(words) => match read(alloc, words) {
-            Ok(Task::Resp(plan)) => answer_requests(alloc, &plan, source, sink),
-            _ => Status::Usage,
-        },
+        Word::Play => play(alloc, source, sink),
+        Word::History => history(alloc, source, sink),
+        Word::Manage => manage(alloc, source, sink),
+        Word::Check => check(alloc, source, sink),
+        Word::Resp(words) => resp(alloc, words, source, sink),
     }
 }
 
@@ -134,12 +156,23 @@ fn try_talk(rt: &impl Abort, alloc: Global, word: Word, turns: &[Turn], at_the_e
         passed_on: &passed_on,
     };
     let status = run(alloc, word, &mut asker, &mut teller);
-    assert!(rt; status == Status::Ok);
-    assert!(rt; !turns.is_empty() && asker.turns.is_empty() && asker.late == 0);
-    assert_eq!(rt; asker.reads, turns.len().saturating_add(1));
-    assert!(rt; teller.sink.is_flushed());
-    assert!(rt; is_whole(teller.sink.bytes(), turns, at_the_end));
+    must_hold(rt, "it ends well", status == Status::Ok);
+    must_hold(rt, "each turn in time", is_asked(&asker, turns));
+    must_hold(rt, "passed on", teller.sink.is_flushed());
+    must_hold(rt, "the text", says(&teller.sink, turns, at_the_end));
     drop(teller);
+}
+
+/// Whether all turns were asked for, and none too early.
+fn is_asked(asker: &Asker<'_>, turns: &[Turn]) -> bool {
+    !turns.is_empty()
+        && asker.turns.is_empty()
+        && asker.late == 0
+        && asker.reads == turns.len().saturating_add(1)
+}
+
+fn says(sink: &MemorySink, turns: &[Turn], at_the_end: &str) -> bool {
+    is_whole(sink.bytes(), turns, at_the_end)
 }
 
 const HEADER: &str =
