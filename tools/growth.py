@@ -5,8 +5,7 @@
 
 CURP and CURPD are the programs `curp` and `curpd`. A row is an input that can be made of any size: steps of one kind, a
 history, requests, a journal. Counted are the calls of the allocator, the bytes that it is asked for, and the calls of `read`
-and of `write`, as tools/shim.py counts them. At eight times the size each may be nine times as much. A row that has more
-today has its own limit, so that it gets no worse: FOUND has these.
+and of `write`, as tools/shim.py counts them. At eight times the size each may be nine times as much.
 
 --short takes few rows, and small ones. --write writes the table of docs/TESTING.md. The status is 1 where a row has more
 than it may.
@@ -33,11 +32,8 @@ EXPIRE = b'{"client":1,"do":"expire"}\n'
 CRASH = b'{"call":1,"do":"crash","kept":false}\n'
 TIMES, MOST = 8, 9.0
 COUNTED = ("calls", "bytes", "reads", "writes")
-SHORT = ["puts", "one message again and again", "`resp`", "a journal that is opened"]
-# Rows that grow faster today, with the most that they may: calls, bytes, reads, writes.
-FOUND = {
-    "`manage`, crashes behind each order": (60, 46, MOST, MOST),
-}
+SHORT = ["puts", "one message again and again", "migrations", "`resp`", "`resp --every 20`, by the entries that are recovered"]
+SHORT += ["`manage`, crashes behind each order", "a journal that is opened"]
 
 
 # ---- scripts
@@ -410,26 +406,24 @@ def compared(name, size, run):
     begun = time.monotonic()
     few, many = run(size), run(TIMES * size)
     times = [getattr(many, what) / max(getattr(few, what), 1) for what in COUNTED]
-    most = FOUND.get(name, [MOST] * len(COUNTED))
     # Where few calls were made, one more or less is no growth.
     over = [
         f"{what} {ratio:.1f}"
-        for what, ratio, limit in zip(COUNTED, times, most)
-        if ratio > limit and getattr(many, what) > limit * (getattr(few, what) + 1)
+        for what, ratio in zip(COUNTED, times)
+        if ratio > MOST and getattr(many, what) > MOST * (getattr(few, what) + 1)
     ]
     told = ", ".join(f"{what} {getattr(many, what):,} ({ratio:.1f})" for what, ratio in zip(COUNTED, times))
     print(f"{name}, {size} and {TIMES * size}: {told}; {time.monotonic() - begun:.1f} s", flush=True)
     if over:
         print(f"    more than it may: {', '.join(over)}", flush=True)
-    line = f"| {name} | {TIMES * size:,} | " + " | ".join(f"{ratio:.1f}" for ratio in times)
-    return over, line + f" | {'**found**' if name in FOUND else ''} |"
+    return over, f"| {name} | {TIMES * size:,} | " + " | ".join(f"{ratio:.1f}" for ratio in times) + " |"
 
 
 def write(lines):
     """Writes the table to the page."""
     page = PAGE.read_text(encoding="utf-8")
     before, behind = page.split(BEGINS)[0], page.split(ENDS)[1]
-    head = ["| row | greater size | calls of the allocator | bytes | `read` | `write` | |", "|---|---|---|---|---|---|---|"]
+    head = ["| row | greater size | calls of the allocator | bytes | `read` | `write` |", "|---|---|---|---|---|---|"]
     told = f"Of the run of {time.strftime('%d %B %Y')}, how many times as much at eight times the size:"
     PAGE.write_text(before + "\n".join([BEGINS, told, "", *head, *lines, ENDS]) + behind, encoding="utf-8")
 
