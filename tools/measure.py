@@ -456,7 +456,7 @@ def main():
         "# Measured",
         "What the program costs, and how often an update takes one round trip. `tools/measure.py crates/curp/out/curp` "
         "makes this page and its pictures, but for its last two sections; the times are the least of three runs on one machine, and the counts are the same on every "
-        "machine. Memory below 17 MB isn't told apart.",
+        "machine. Memory below 17 MB isn't told apart, nor below 36 MB where recoveries are measured.",
     ]
     parts += plan_part(curp) + beside_part(curp) + recovery_part(curp) + round_trip_part(curp) + full_set_part(curp) + frame_part() + live_part(curp)
     # These parts of the page are written by tools/measure_curpd.py and cluster/figures.
