@@ -1,8 +1,9 @@
-ghost use Rattle.std.specs.Prelude.{◌≡◌, ◌+◌, ◌<◌, ◌≤◌, ◌++◌, [], ◌∷◌, length, take, drop, slice_set, slice_index_or, IfOk, IfNone, OnOk, OnErr};
+ghost use Rattle.std.specs.Prelude.{◌≡◌, ◌+◌, ◌<◌, ◌≤◌, ◌++◌, [], ◌∷◌, length, take, drop, max, slice_set, slice_index_or, vec_capacity, vec_len, IfOk, IfNone, OnOk, OnErr};
 ghost use Rattle.std.specs.Fn.{CalledAt};
 ghost use Rattle.std.specs.List.{insert, remove};
 ghost use Rattle.std.specs.List.Retain.{IsFiltered};
 ghost use Rattle.std.specs.Option.{option_to_list};
+ghost use Rattle.curp_base.specs.Reserving.{most_spare};
 
 use crate::NoMemory;
 use std::alloc::Global;
@@ -61,14 +62,15 @@ impl<T> Reserved<T> {
         self.items
     }
 
-    /// Makes room for so many more items.
+    /// Makes room for so many more items, or for as many as there are where that is more.
     pub fn reserve(&mut self, spare: u64) -> Result<(), NoMemory>
         ensures items { self.new.items ≡ self.old.items }
         ensures room { OnOk result (spare ≤ self.new.spare) }
         ensures kept { self.old.spare ≤ self.new.spare }
+        ensures no_more { self.new.spare ≤ most_spare self.old spare }
         ensures err { OnErr result (self.new ≡ self.old) }
     {
-        self.items.reserve(spare as usize)
+        make_room(&mut self.items, spare as usize)
     }
 
     pub fn len(&self) -> usize
@@ -183,4 +185,20 @@ impl<T> Index<usize> for Reserved<T> {
     {
         &self.items[at]
     }
+}
+
+/// Makes room behind items for so many more, or for as many as there are where that is more: they are moved no more often than
+/// those of a list that doubles.
+pub fn make_room<T>(items: &mut Vec<T>, spare: usize) -> Result<(), NoMemory>
+    ensures items { items.new.items ≡ items.old.items }
+    ensures room { OnOk result (vec_len items.new + spare ≤ vec_capacity items.new) }
+    ensures kept { vec_capacity items.old ≤ vec_capacity items.new }
+    ensures no_more { vec_capacity items.new ≤ max (vec_capacity items.old) (vec_len items.old + max spare (vec_len items.old)) }
+    ensures err { OnErr result (vec_capacity items.new ≡ vec_capacity items.old) }
+{
+    let len = items.len();
+    if spare <= items.capacity() - len {
+        return Ok(());
+    }
+    items.reserve_exact(spare.max(len))
 }

@@ -3,6 +3,7 @@ ghost use Rattle.std.specs.FinMap.Entries.{find, put};
 ghost use Rattle.std.specs.Fn.{CalledAt};
 ghost use Rattle.std.specs.List.Retain.{IsFiltered};
 ghost use Rattle.curp_base.specs.Places.{IsKeyAt, IsKeyGap, put_once};
+ghost use Rattle.curp_base.specs.Reserving.{most_spare};
 ghost use Rattle.curp_base.specs.Words.{KeysAscend};
 
 use crate::{NoMemory, Reserved};
@@ -50,11 +51,12 @@ impl<K: Ord, V> ReservedPairs<K, V> {
         Ok(ReservedPairs { pairs })
     }
 
-    /// Makes room for so many more pairs.
+    /// Makes room for so many more pairs, or for as many as there are where that is more.
     pub fn reserve(&mut self, spare: u64) -> Result<(), NoMemory>
         ensures items { self.new.items ≡ self.old.items }
         ensures room { OnOk result (spare ≤ self.new.spare) }
         ensures kept { self.old.spare ≤ self.new.spare }
+        ensures no_more { self.new.spare ≤ most_spare self.old spare }
         ensures err { OnErr result (self.new ≡ self.old) }
     {
         self.pairs.reserve(spare)

@@ -1,5 +1,5 @@
 -- A list of entries in memory.
-use Rattle.std.specs.Prelude.{◌≡◌, ℕ, ◌<◌, ◌^◌, List, ◌++◌, length}
+use Rattle.std.specs.Prelude.{◌≡◌, ℕ, ◌<◌, ◌≤◌, ◌^◌, List, ◌++◌, length}
 use Rattle.curp_cmd.specs.declared.entry.Entry.{Entry}
 
 -- the entries, how many of the oldest are packed, and for how many more there is room
@@ -13,7 +13,12 @@ pub record AreLast (last entries : List Entry) : Type 0 where
   pub others : List Entry
   pub behind : entries ≡ others ++ last
 
--- packed entries, the last of which are there as they are too, and those behind them, are no more than memory holds
+-- how many of the packed entries are there as they are too, at most: 16 runs of 64
+abbrev pub most_recent : ℕ
+most_recent = 1024
+
+-- packed entries, a few of which, the last, are there as they are too, and those behind them, are no more than memory holds
 pub record AreHeld (packed recent tail : List Entry) : Type 0 where
   pub few : length (packed ++ tail) < 2 ^ 63
   pub last : AreLast recent packed
+  pub few_recent : length recent ≤ most_recent

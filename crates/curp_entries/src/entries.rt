@@ -1,4 +1,4 @@
-ghost use Rattle.std.specs.Prelude.{◌≡◌, ◌+◌, ◌-◌, ◌<◌, ◌≤◌, ◌^◌, ◌∷◌, ◌++◌, [], take, drop, length, slice_get, nat_lt, if◌then◌else◌, None, IfOk, OnErr, OnOk};
+ghost use Rattle.std.specs.Prelude.{◌≡◌, ◌+◌, ◌-◌, ◌<◌, ◌≤◌, ◌^◌, ◌∷◌, ◌++◌, [], take, drop, length, max, slice_get, nat_lt, if◌then◌else◌, None, IfOk, OnErr, OnOk};
 ghost use Rattle.std.specs.Option.{option_copied};
 ghost use Rattle.curp_entries.specs.Packed.{IsPackedPart, IsShortTail};
 ghost use Rattle.curp_entries.specs.Requests.{request_at};
@@ -6,7 +6,7 @@ ghost use Rattle.curp_items.specs.Encoding.{request_of};
 
 use crate::prefix::Prefix;
 use crate::runs::{add_copies, keep_recent, leave, push_runs};
-use curp_base::{NoMemory, past};
+use curp_base::{NoMemory, make_room, past};
 use curp_cmd::{Entry, Request};
 use std::alloc::{AllocError, Global};
 use std::marker::Model;
@@ -66,17 +66,20 @@ impl PackedEntries {
         ensures short { OnOk result (IsShortTail (drop self.new.packed self.new.entries)) }
         ensures room { OnOk result (spare ≤ self.new.spare) }
         ensures kept { self.old.spare ≤ self.new.spare }
+        ensures no_more { self.new.spare ≤ max spare (self.old.spare + length (drop self.old.packed self.old.entries)) }
     {
         self.pack()?;
         self.hold(spare)?;
-        self.tail.reserve(spare as usize)
+        make_room(&mut self.tail, spare as usize)
     }
 
     /// Packs as many of the oldest entries as leave a short tail. Where memory is wanting fewer may be packed.
     pub fn pack(&mut self) -> Result<(), NoMemory>
         ensures entries { self.new.entries ≡ self.old.entries }
         ensures short { OnOk result (IsShortTail (drop self.new.packed self.new.entries)) }
+        ensures packed { self.old.packed ≤ self.new.packed }
         ensures kept { self.old.spare ≤ self.new.spare }
+        ensures no_more { self.new.spare ≤ self.old.spare + length (drop self.old.packed self.old.entries) }
     {
         let (count, packed) = push_runs(&mut self.prefix, &self.tail);
         if count > 0 {

@@ -3,7 +3,7 @@ ghost use Rattle.std.specs.Prelude.{◌≡◌, ◌↔◌, ◌≤◌, ◌++◌, I
 ghost use Rattle.curp_base.specs.Words.{Each};
 ghost use Rattle.curp_cmd.specs.declared.entry.Entry.{Entry};
 ghost use Rattle.curp_items.specs.Encoding.{HasEncoding};
-ghost use Rattle.curp_entries.specs.EntryList.{AreLast};
+ghost use Rattle.curp_entries.specs.EntryList.{AreLast, most_recent};
 ghost use Rattle.curp_entries.specs.Packed.{IsShortTail, run};
 
 use crate::encoded::has_encoding;
@@ -63,7 +63,8 @@ const RECENT: usize = 16 * RUN;
 /// Keeps copies of the last of the entries that were kept and of those that were packed behind them, or of none where memory
 /// is wanting.
 pub(crate) fn keep_recent(alloc: Global, recent: &mut Vec<Entry>, packed: &[Entry])
-    ensures { AreLast recent.new.items (recent.old.items ++ packed.now) }
+    ensures last { AreLast recent.new.items (recent.old.items ++ packed.now) }
+    ensures few { length recent.new.items ≤ most_recent }
 {
     if packed.len() >= RECENT {
         *recent = last_of(alloc, packed);
@@ -80,7 +81,8 @@ pub(crate) fn keep_recent(alloc: Global, recent: &mut Vec<Entry>, packed: &[Entr
 
 /// Copies of the last entries, as many as are kept, or of none where memory is wanting.
 fn last_of(alloc: Global, entries: &[Entry]) -> Vec<Entry>
-    ensures { AreLast result.items entries.now }
+    ensures last { AreLast result.items entries.now }
+    ensures few { length result.items ≤ most_recent }
 {
     let others = entries.len().saturating_sub(RECENT);
     match copies_of(alloc, past(entries, others as u64)) {

@@ -1,4 +1,4 @@
-ghost use Rattle.std.specs.Prelude.{◌≡◌, ◌+◌, ◌≤◌, [], ◌∷◌, ◌++◌, OnOk};
+ghost use Rattle.std.specs.Prelude.{◌≡◌, ◌+◌, ◌≤◌, [], ◌∷◌, ◌++◌, length, max, OnOk};
 ghost use Rattle.curp_order.specs.Recorded.{invocation, completion};
 
 use crate::KeptEvent;
@@ -42,6 +42,7 @@ impl History {
         ensures events { self.new.events ≡ self.old.events }
         ensures room { OnOk result (events ≤ self.new.spare) }
         ensures kept { self.old.spare ≤ self.new.spare }
+        ensures no_more { self.new.spare ≤ max self.old.spare (max events (length self.old.events)) }
     {
         self.events.reserve(events)
     }

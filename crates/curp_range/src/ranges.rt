@@ -1,5 +1,5 @@
 ghost use Rattle.std.specs.Prelude.{◌≡◌, ℕ, ◌+◌, ◌≤◌, ◌&&◌, ◌||◌, not, IsTrue, IsFalse, ◌↔◌};
-ghost use Rattle.std.specs.Prelude.{[], ◌∷◌, IfOk, OnOk, OnErr};
+ghost use Rattle.std.specs.Prelude.{[], ◌∷◌, length, max, IfOk, OnOk, OnErr};
 ghost use Rattle.curp_range.specs.Spans.{is_in, is_owned, without, with_range, SpansAscend, Covers, Lacks, Meets};
 
 use crate::{Spans, spans};
@@ -109,6 +109,7 @@ impl Ranges {
         ensures spans { self.new.spans ≡ self.old.spans }
         ensures room { OnOk result (spare ≤ self.new.spare) }
         ensures kept { self.old.spare ≤ self.new.spare }
+        ensures no_more { self.new.spare ≤ max self.old.spare (max spare (length self.old.spans)) }
         ensures err { OnErr result (self.new ≡ self.old) }
     {
         self.spans.reserve(spare)

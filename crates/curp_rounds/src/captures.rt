@@ -1,4 +1,4 @@
-ghost use Rattle.std.specs.Prelude.{◌≡◌, ◌<◌, ◌≤◌, ◌+◌, ◌-◌, ◌++◌, ◌∷◌, [], not, filter, map, take, drop, length, slice_get, OnOk};
+ghost use Rattle.std.specs.Prelude.{◌≡◌, ◌<◌, ◌≤◌, ◌+◌, ◌-◌, ◌++◌, ◌∷◌, [], not, filter, map, max, take, drop, length, slice_get, OnOk};
 ghost use Rattle.std.specs.Option.{option_copied};
 ghost use Rattle.curp_model.specs.Master.{all_have};
 ghost use Rattle.curp_base.specs.Words.{Each};
@@ -72,14 +72,19 @@ impl Captures {
         self.count
     }
 
-    /// Makes room for one more.
+    /// Makes room for one more, or for as many as there are.
     pub fn reserve(&mut self) -> Result<(), NoMemory>
         ensures waiting { self.new.waiting ≡ self.old.waiting }
         ensures count { self.new.count ≡ self.old.count }
         ensures last { self.new.last ≡ self.old.last }
         ensures room { OnOk result (1 ≤ self.new.spare) }
+        ensures no_more { self.new.spare ≤ max self.old.spare (max 1 (length self.old.waiting)) }
     {
-        self.waiting.reserve(1)
+        let len = self.waiting.len();
+        if len < self.waiting.capacity() {
+            return Ok(());
+        }
+        self.waiting.reserve_exact(len.max(1))
     }
 
     /// Adds one, which has the next number, and was captured no earlier than the last. It takes no memory, since there

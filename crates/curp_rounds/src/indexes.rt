@@ -1,4 +1,4 @@
-ghost use Rattle.std.specs.Prelude.{◌≡◌, ◌+◌, ◌<◌, ◌≤◌, nat_lt, not, [], ◌∷◌, ◌++◌, length, slice_index, filter};
+ghost use Rattle.std.specs.Prelude.{◌≡◌, ◌+◌, ◌<◌, ◌≤◌, nat_lt, not, [], ◌∷◌, ◌++◌, length, max, slice_index, filter};
 ghost use Rattle.std.specs.Prelude.{IfOk, IfErr, OnOk};
 ghost use Rattle.std.specs.BTreeSet.{insert_key};
 ghost use Rattle.std.specs.List.Sorted.{IsNonDecreasing};
@@ -47,6 +47,7 @@ impl Indexes {
     pub fn reserve(&mut self, more: u64) -> Result<(), NoMemory>
         ensures numbers { self.new.numbers ≡ self.old.numbers }
         ensures room { OnOk result (more ≤ self.new.spare) }
+        ensures no_more { self.new.spare ≤ max self.old.spare (max more (length self.old.numbers)) }
     {
         self.numbers.reserve(more)
     }

@@ -15,10 +15,11 @@ invariant_of-self c =
     c.push_runs-count.ensures.prefix ∙ ap (λ (l : List Entry). before ++ take count l) c.deref.ensures.value in
     let same : c.push_runs-count.new.prefix ++ c.leave.new.tail.items ≡ before ++ tail =
     moved count before tail c.push_runs-count.new.prefix c.leave.new.tail.items prefix c.leave.ensures.items in
-    let last = subst (λ (l : List Entry). AreLast c.keep_recent.new.recent.items (c.self.inside.recent.items ++ take count l)) c.deref-then-count-gt0.ensures.value c.keep_recent.ensures in
+    let last = subst (λ (l : List Entry). AreLast c.keep_recent.new.recent.items (c.self.inside.recent.items ++ take count l)) c.deref-then-count-gt0.ensures.value c.keep_recent.ensures.last in
     record {
       few = subst (λ (l : List Entry). length l < 2 ^ 63) (sym same) c.self.invariant.few;
       last = subst (AreLast c.keep_recent.new.recent.items) (sym prefix) (last_behind _ _ before _ last c.self.invariant.last);
+      few_recent = c.keep_recent.ensures.few;
     }
 
 pub returns-then-count-gt0-clause-short : goal.returns-then-count-gt0-clause-short
