@@ -1,4 +1,4 @@
-ghost use Rattle.std.specs.Prelude.{◌≡◌, ◌+◌, ◌-◌, ◌<◌, ◌≤◌, ◌^◌, true, [], ◌∷◌, ◌++◌, Some, length, take, drop, slice_get, IfOk, IfSome, OnOk};
+ghost use Rattle.std.specs.Prelude.{◌≡◌, ◌+◌, ◌-◌, ◌<◌, ◌≤◌, ◌^◌, true, [], ◌∷◌, ◌++◌, Some, is_some, length, take, drop, slice_get, IfOk, IfSome, OnOk};
 ghost use Rattle.std.specs.FinMap as map;
 ghost use Rattle.std.specs.List.{filter, list_all};
 ghost use Rattle.curp_cmd.specs.Entry.{room_of};
@@ -98,6 +98,31 @@ impl Log {
             state: State::begin(alloc, lo, hi)?,
             taken: LatestTake::Never,
         })
+    }
+
+    /// The log with these entries, if a master that began with the hashes from `lo` to `hi` could have pushed them.
+    pub fn from_entries(
+        alloc: Global,
+        lo: u64,
+        hi: u64,
+        entries: &[Entry],
+    ) -> Result<Option<Log>, NoMemory>
+        requires ordered { lo ≤ hi }
+        ensures is_log { IfOk result (λ made. is_some made ≡ is_log lo hi entries.now) }
+        ensures lo { IfOk result (λ made. IfSome made (λ log. log.lo ≡ lo)) }
+        ensures hi { IfOk result (λ made. IfSome made (λ log. log.hi ≡ hi)) }
+        ensures entries { IfOk result (λ made. IfSome made (λ log. log.entries ≡ entries.now)) }
+    {
+        let mut log = Log::begin(alloc, lo, hi)?;
+        for entry in entries {
+            let fits = log.fits(entry)?;
+            if !fits {
+                return Ok(None);
+            }
+            log.reserve(room(entry))?;
+            log.push(entry.copy(alloc)?);
+        }
+        Ok(Some(log))
     }
 
     /// Makes room for entries that take so much, by `curp_cmd::room`. The oldest entries are packed first, so that fewer than
@@ -299,21 +324,4 @@ fn owns_each(ranges: &Ranges, hashes: &Hashes) -> bool
     ensures { result ≡ list_all (is_owned ranges.now.spans) hashes.now }
 {
     hashes.as_slice().iter().all(|hash| ranges.owns(*hash))
-}
-
-/// Whether a master that began with the hashes from `lo` to `hi` could have pushed these entries.
-pub fn is_log(alloc: Global, lo: u64, hi: u64, entries: &[Entry]) -> Result<bool, NoMemory>
-    requires ordered { lo ≤ hi }
-    ensures { IfOk result (λ is. is ≡ is_log lo hi entries.now) }
-{
-    let mut log = Log::begin(alloc, lo, hi)?;
-    for entry in entries {
-        let fits = log.fits(entry)?;
-        if !fits {
-            return Ok(false);
-        }
-        log.reserve(room(entry))?;
-        log.push(entry.copy(alloc)?);
-    }
-    Ok(true)
 }

@@ -18,7 +18,7 @@ use crate::turned::turned_away;
 use crate::{Phase, RecoveryError, messages};
 use curp_base::{Items, NoMemory, Shared, TryCopy, copies_of};
 use curp_cmd::{Entry, NodeId, Request};
-use curp_log::{Log, is_log};
+use curp_log::Log;
 use curp_msg::{AppendAnswer, Appended, Body, Done, FenceReply, Local, Message, Recover};
 use std::alloc::{AllocError, Global};
 use std::marker::Model;
@@ -342,7 +342,8 @@ impl Recovery {
         if !awaits || *from != self.order.backup {
             return Ok(false);
         }
-        is_log(self.alloc, self.order.lo, self.order.hi, entries)
+        let log = Log::from_entries(self.alloc, self.order.lo, self.order.hi, entries)?;
+        Ok(log.is_some())
     }
 
     fn on_frozen_answer(

@@ -5,7 +5,7 @@ use crate::build::{
 };
 use curp_base::{Shared, past};
 use curp_cmd::{Answer, Command, Entry, Key, NodeId, Package, Request, RequestId, Store, Value};
-use curp_log::{LatestGive, Log, is_log};
+use curp_log::{LatestGive, Log};
 use curp_master::Master;
 use curp_model::Check;
 use curp_msg::{Body, TakeOut};
@@ -344,7 +344,7 @@ fn a_client_goes_with_its_records(rt: HostRuntime) {
 
 fn is_one(rt: &impl Abort, alloc: Global, (lo, hi): (u64, u64), entries: &[Entry]) -> bool {
     assert!(rt; lo <= hi);
-    must(rt, is_log(alloc, lo, hi, entries))
+    must(rt, Log::from_entries(alloc, lo, hi, entries)).is_some()
 }
 
 #[test]

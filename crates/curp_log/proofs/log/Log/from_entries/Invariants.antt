@@ -1,6 +1,6 @@
 use Rattle.std.proofs.Common.{◌≡◌, take, true}
 use Rattle.curp_model.specs.Log.{is_log}
-use Rattle.curp_log.proofs.log.is_log.Given as goal
+use Rattle.curp_log.proofs.log.Log.from_entries.Given as goal
 
 -- the entries so far are pushed, and make a log
 abbrev pub invariant-loop-entry : goal.invariant-loop-entry

@@ -1,6 +1,6 @@
 use Rattle.std.proofs.Common.{◌∙◌, ◌++◌, sym, take, ◌∷◌, []}
 use Rattle.curp_log.proofs.Calls.{passed, refused, same_fit, taken_more}
-use Rattle.curp_log.proofs.log.is_log.Goals as goal
+use Rattle.curp_log.proofs.log.Log.from_entries.Goals as goal
 
 pub returns-then-not-fits : goal.returns-then-not-fits
 returns-then-not-fits c =
