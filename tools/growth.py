@@ -5,10 +5,12 @@
 
 CURP and CURPD are the programs `curp` and `curpd`. A row is an input that can be made of any size: steps of one kind, a
 history, requests, a journal. Counted are the calls of the allocator, the bytes that it is asked for, and the calls of `read`
-and of `write`, as tools/shim.py counts them. At eight times the size each may be nine times as much.
+and of `write`, as tools/shim.py counts them. At eight times the size each may be nine times as much. Of the allocator's
+calls and bytes a row may have a tenth more than the table of docs/TESTING.md tells, so a run that takes several times what
+it needs at each size is told too.
 
---short takes few rows, and small ones. --write writes the table of docs/TESTING.md. The status is 1 where a row has more
-than it may.
+--short takes few rows. --write writes the table, and compares nothing with what it told before. The status is 1 where a row
+has more than it may.
 """
 
 import argparse
@@ -31,6 +33,8 @@ BEGINS, ENDS = "<!-- growth: written by tools/growth.py -->", "<!-- end of growt
 EXPIRE = b'{"client":1,"do":"expire"}\n'
 CRASH = b'{"call":1,"do":"crash","kept":false}\n'
 TIMES, MOST = 8, 9.0
+# How many times as much as the page tells a row may have, but for runs on threads, no two of which are the same.
+MOST_OF_TOLD, VARYING = 1.1, "`live`, a step"
 COUNTED = ("calls", "bytes", "reads", "writes")
 SHORT = ["puts", "one message again and again", "migrations", "`resp`", "`resp --every 20`, by the entries that are recovered"]
 SHORT += ["`manage`, crashes behind each order", "a journal that is opened"]
@@ -401,8 +405,28 @@ def rows_of(bench):
     }
 
 
-def compared(name, size, run):
-    """Runs a row at both sizes: how many times as much is counted at the greater."""
+def told_on_page():
+    """Of each row of the page the calls of the allocator and the bytes, at the greater size."""
+    told = {}
+    for line in PAGE.read_text(encoding="utf-8").partition(BEGINS)[2].partition(ENDS)[0].splitlines():
+        cells = [cell.strip() for cell in line.strip("|").split("|")]
+        if len(cells) == 8 and cells[2].replace(",", "").isdigit():
+            told[cells[0]] = {"calls": int(cells[2].replace(",", "")), "bytes": int(cells[4].replace(",", ""))}
+    return told
+
+
+def more_than_told(name, many, told):
+    """What a row has more of than the page tells."""
+    if name == VARYING:
+        return []
+    if name not in told:
+        return ["not on the page"]
+    each = [(what, getattr(many, what), most) for what, most in told[name].items()]
+    return [f"{what} {count:,}, of which {most:,} are told" for what, count, most in each if count > MOST_OF_TOLD * most]
+
+
+def compared(name, size, run, on_page):
+    """Runs a row at both sizes: how many times as much is counted at the greater, and whether the page tells as much."""
     begun = time.monotonic()
     few, many = run(size), run(TIMES * size)
     times = [getattr(many, what) / max(getattr(few, what), 1) for what in COUNTED]
@@ -412,19 +436,23 @@ def compared(name, size, run):
         for what, ratio in zip(COUNTED, times)
         if ratio > MOST and getattr(many, what) > MOST * (getattr(few, what) + 1)
     ]
+    over += more_than_told(name, many, on_page) if on_page is not None else []
     told = ", ".join(f"{what} {getattr(many, what):,} ({ratio:.1f})" for what, ratio in zip(COUNTED, times))
     print(f"{name}, {size} and {TIMES * size}: {told}; {time.monotonic() - begun:.1f} s", flush=True)
     if over:
         print(f"    more than it may: {', '.join(over)}", flush=True)
-    return over, f"| {name} | {TIMES * size:,} | " + " | ".join(f"{ratio:.1f}" for ratio in times) + " |"
+    calls, in_bytes, reads, writes = (f"{ratio:.1f}" for ratio in times)
+    cells = [name, f"{TIMES * size:,}", f"{many.calls:,}", calls, f"{many.bytes:,}", in_bytes, reads, writes]
+    return over, f"| {' | '.join(cells)} |"
 
 
 def write(lines):
     """Writes the table to the page."""
     page = PAGE.read_text(encoding="utf-8")
     before, behind = page.split(BEGINS)[0], page.split(ENDS)[1]
-    head = ["| row | greater size | calls of the allocator | bytes | `read` | `write` |", "|---|---|---|---|---|---|"]
-    told = f"Of the run of {time.strftime('%d %B %Y')}, how many times as much at eight times the size:"
+    head = ["| row | greater size | calls of the allocator | times | bytes | times | `read`, times | `write`, times |"]
+    head += ["|" + "---|" * 8]
+    told = f"Of the run of {time.strftime('%d %B %Y')}: what the greater size takes, and how many times as much as an eighth of it:"
     PAGE.write_text(before + "\n".join([BEGINS, told, "", *head, *lines, ENDS]) + behind, encoding="utf-8")
 
 
@@ -440,7 +468,8 @@ def main():
     with tempfile.TemporaryDirectory() as folder:
         rows = rows_of(Bench(options, folder))
         chosen = options.only or (SHORT if options.short else list(rows))
-        results = [compared(name, *rows[name]) for name in chosen]
+        on_page = None if options.write else told_on_page()
+        results = [compared(name, *rows[name], on_page) for name in chosen]
     over = [told for told, _ in results if told]
     if not results or over:
         sys.exit(1)
