@@ -322,7 +322,7 @@ def recovery_part(curp):
         "One client that isn't fast puts so many keys, each on the backup before the next; then the master is recovered. "
         "The time of the recovery is that of its 11 steps: the difference of two times, so a few hundredths of a second "
         "are noise, and one below 0 is told as 0. It grows with the log, which the backup sends whole and the fresh backup "
-        "gets whole.",
+        "gets whole, and which the fresh master executes once.",
         table(
             ["updates in the log", "seconds ahead of it", "seconds of the recovery", "memory", "of the recovery before", "memory before"],
             told,

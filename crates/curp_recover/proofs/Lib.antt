@@ -1,5 +1,5 @@
 pub mod Behind
-pub mod Fits
+pub mod Came
 pub mod Stored
 pub mod Reports
 pub mod Silent

@@ -6,8 +6,10 @@
 //! `on_message`, `on_order`: the same for a message or an order as it comes, where the adoption changes nothing;
 //! `is_adopted_by` says whether a message is the adoption by which it begins to serve, and `finish` gives the log to
 //! serve with, without memory. The replayed requests stand behind the log as ops that acknowledge nothing, in the
-//! witness's order, each where it is new and owned. A log that is none counts as not delivered. A recovery costs two
-//! passes over the log, to test it and to replay behind it, and its messages. Out of memory, nothing has changed.
+//! witness's order, each where it is new and owned. A log that is none counts as not delivered. A recovery executes its
+//! log once, as it comes. It copies the entries, which share their requests, into that log, once more while it waits for
+//! the requests, and once for each fresh backup. Out of memory, nothing has changed; when what came then comes again, the
+//! log is executed anew.
 #![tactic(auto)]
 
 mod error;

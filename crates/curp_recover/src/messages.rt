@@ -1,10 +1,12 @@
-ghost use Rattle.std.specs.Prelude.{◌≡◌, ◌∷◌, ◌++◌, [], if◌then◌else◌, IfOk};
+ghost use Rattle.std.specs.Prelude.{◌≡◌, ◌∷◌, ◌++◌, [], if◌then◌else◌, IfOk, OnOk};
 ghost use Rattle.curp_cmd.specs.Node.{master_node};
 ghost use Rattle.curp_model.specs.Master.{refuse};
 ghost use Rattle.curp_model.specs.Recovery.{fence_of, freeze_of, recovered_message, unanswered_log, unanswered_requests};
 ghost use Rattle.curp_msg.specs.Moved.{says, says_each};
+ghost use Rattle.curp_recover.specs.Stage.{fenced_entries};
 
-use curp_base::{Items, NoMemory, Shared, copies_of};
+use crate::stage::FencedLog;
+use curp_base::{Items, NoMemory, Shared};
 use curp_cmd::{Entry, NodeId, Request, RequestId};
 use curp_msg::{Append, Body, Message, Recover, Recovered, Refusal, Refuse};
 use std::alloc::Global;
@@ -61,11 +63,11 @@ pub fn unanswered(
     alloc: Global,
     number: u32,
     order: &Recover,
-    log: &Option<Items<Entry>>,
+    log: &Option<FencedLog>,
     requests: &Option<Items<Shared<Request>>>,
 ) -> Result<Vec<Message>, NoMemory>
     ensures { IfOk result (λ messages. messages.items
-        ≡ unanswered_log number order.now log.now ++ unanswered_requests number order.now requests.now) }
+        ≡ unanswered_log number order.now (fenced_entries log.now) ++ unanswered_requests number order.now requests.now) }
 {
     let mut messages = Vec::with_capacity(alloc, 2)?;
     if log.is_none() {
@@ -94,24 +96,46 @@ pub fn told(
     Ok(messages)
 }
 
-/// The whole log to each of these backups.
+/// The whole log to each of these backups: these entries, and those behind them.
 pub fn appends(
     alloc: Global,
     number: u32,
     epoch: u32,
     round: u64,
-    whole: &[Entry],
+    entries: &[Entry],
+    behind: &[Entry],
     backups: &[NodeId],
 ) -> Result<Vec<Message>, NoMemory>
-    ensures { IfOk result (λ messages. messages.items ≡ says_each (master_node number) backups.now
-        (Body.Append (record { epoch = epoch; base = 0; round = round; entries = whole.now }))) }
+    ensures { IfOk result (λ messages. messages.items ≡ says_each (master_node number) backups.now (Body.Append
+        (record { epoch = epoch; base = 0; round = round; entries = entries.now ++ behind.now }))) }
 {
     let mut messages = Vec::with_capacity(alloc, backups.len())?;
     for backup in backups {
-        let entries = copies_of(alloc, whole)?;
-        messages.push(append(number, *backup, epoch, round, entries))?;
+        let whole = joined(alloc, entries, behind)?;
+        messages.push(append(number, *backup, epoch, round, whole))?;
     }
     Ok(messages)
+}
+
+/// Copies of entries and of those behind them.
+fn joined(alloc: Global, entries: &[Entry], behind: &[Entry]) -> Result<Vec<Entry>, NoMemory>
+    ensures { IfOk result (λ whole. whole.items ≡ entries.now ++ behind.now) }
+{
+    let count = entries.len().saturating_add(behind.len());
+    let mut whole = Vec::with_capacity(alloc, count)?;
+    add_copies(alloc, &mut whole, entries)?;
+    add_copies(alloc, &mut whole, behind)?;
+    Ok(whole)
+}
+
+/// Puts copies of entries behind others.
+fn add_copies(alloc: Global, to: &mut Vec<Entry>, entries: &[Entry]) -> Result<(), NoMemory>
+    ensures { OnOk result (to.new.items ≡ to.old.items ++ entries.now) }
+{
+    for entry in entries {
+        to.push(entry.copy(alloc)?)?;
+    }
+    Ok(())
 }
 
 /// The whole log to a backup.

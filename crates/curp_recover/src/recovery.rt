@@ -1,19 +1,16 @@
-ghost use Rattle.std.specs.Prelude.{◌≡◌, ◌&&◌, true, IfOk, IfErr};
+ghost use Rattle.std.specs.Prelude.{◌≡◌, true, IfOk, IfErr};
 ghost use Rattle.std.specs.Option.{option_map};
 ghost use Rattle.std.specs.Result.{result_ok};
-ghost use Rattle.curp_model.specs.Log.{is_log};
-ghost use Rattle.curp_cmd.specs.Node.{same_node};
-ghost use Rattle.curp_model.specs.Recovery.{Recovering, again_in, append_answered, both_there, fence_answered};
+ghost use Rattle.curp_model.specs.Recovery.{Recovering, again_in, append_answered, fence_answered};
 ghost use Rattle.curp_model.specs.Recovery.{log_comes, on_master, on_recover, recovery_ordered, requests_come};
 ghost use Rattle.curp_model.specs.Recovery.{stored_comes};
-ghost use Rattle.curp_msg.specs.Moved.{Makes, Moves, done_of, numbered_move};
+ghost use Rattle.curp_msg.specs.Moved.{Makes, Moves, numbered_move};
 ghost use Rattle.curp_recover.specs.Answers.{TellsIgnored, awaits_backups, awaits_log, awaits_requests};
-ghost use Rattle.curp_recover.specs.Stage.{IsStage, phase_of};
 ghost use Rattle.curp_recover.specs.Answers.{finished_log, phase_name, replayed_in, round_in};
 ghost use Rattle.curp_recover.specs.Heard.{heard, is_serving, unadopted};
 
-use crate::replay::{replayed, with_replayed};
-use crate::stage::{Awaited, RecoveryStage, ReplayedLog, awaited_after};
+use crate::replay::{storing, with_log};
+use crate::stage::{Awaited, RecoveryStage, awaited_after};
 use crate::turned::turned_away;
 use crate::{Phase, RecoveryError, messages};
 use curp_base::{Items, NoMemory, Shared, TryCopy, copies_of};
@@ -115,34 +112,27 @@ impl Recovery {
         }
     }
 
-    /// The log of the named backup comes. Once the requests are there too, the replayed log goes to each fresh backup.
-    pub fn on_log(&mut self, entries: Vec<Entry>) -> Result<Done, RecoveryError>
-        requires is_log { is_log self.old.state.order.lo self.old.state.order.hi entries.items ≡ true }
+    /// The log of the named backup comes. Once the requests are there too, the replayed log goes to each fresh backup. What
+    /// is no log counts as not delivered.
+    pub fn on_log(&mut self, entries: &[Entry]) -> Result<Done, RecoveryError>
         ensures moves { Moves self.old self.new result (numbered_move self.old.number
-            (log_comes self.old.number self.old.state self.old.state.order.backup entries.items self.old.state.phase)) }
+            (log_comes self.old.number self.old.state self.old.state.order.backup entries.now self.old.state.phase)) }
         ensures ignored { TellsIgnored (awaits_log self.old.state.phase) (phase_name self.old.state.phase) result }
     {
-        match &self.stage {
-            RecoveryStage::Asking {
-                log: None,
-                requests: None,
-            } => {
-                self.stage = RecoveryStage::Asking {
-                    log: Some(Items::new(entries)),
-                    requests: None,
-                };
-                Ok(Done::quiet(self.alloc))
-            }
-            RecoveryStage::Asking {
-                log: None,
-                requests: Some(requests),
-            } => {
-                let (stage, done) = self.storing(&entries, requests.as_slice())?;
-                self.stage = stage;
-                Ok(done)
-            }
-            _ => Err(self.ignored()),
-        }
+        let RecoveryStage::Asking {
+            log: None,
+            requests,
+        } = &self.stage
+        else {
+            return Err(self.ignored());
+        };
+        let order = &self.order;
+        let Some(log) = Log::from_entries(self.alloc, order.lo, order.hi, entries)? else {
+            return Ok(Done::quiet(self.alloc));
+        };
+        let (stage, done) = with_log(self.alloc, self.number, order, log, entries, requests)?;
+        self.stage = stage;
+        Ok(done)
     }
 
     /// The requests of the named witness come. Once the log is there too, the replayed log goes to each fresh backup.
@@ -152,7 +142,8 @@ impl Recovery {
             self.old.state.phase)) }
         ensures ignored { TellsIgnored (awaits_requests self.old.state.phase) (phase_name self.old.state.phase) result }
     {
-        match &self.stage {
+        let (alloc, number, order) = (self.alloc, self.number, &self.order);
+        match &mut self.stage {
             RecoveryStage::Asking {
                 log: None,
                 requests: None,
@@ -161,13 +152,15 @@ impl Recovery {
                     log: None,
                     requests: Some(Items::new(requests)),
                 };
-                Ok(Done::quiet(self.alloc))
+                Ok(Done::quiet(alloc))
             }
             RecoveryStage::Asking {
-                log: Some(log),
+                log: Some(fenced),
                 requests: None,
             } => {
-                let (stage, done) = self.storing(log.as_slice(), &requests)?;
+                let log = fenced.take_log(alloc, order)?;
+                let entries = fenced.entries.as_slice();
+                let (stage, done) = storing(alloc, number, order, log, entries, &requests)?;
                 self.stage = stage;
                 Ok(done)
             }
@@ -325,25 +318,10 @@ impl Recovery {
         let FenceReply::Log(entries) = answer else {
             return Ok(Done::quiet(self.alloc));
         };
-        if !self.takes_log(from, entries.as_slice())? {
+        if *from != self.order.backup {
             return Ok(Done::quiet(self.alloc));
         }
-        let entries = copies_of(self.alloc, entries.as_slice())?;
-        heard(self.alloc, self.on_log(entries))
-    }
-
-    // Whether it waits for a log, and this is one, from the named backup.
-    fn takes_log(&self, from: &NodeId, entries: &[Entry]) -> Result<bool, NoMemory>
-        ensures { IfOk result (λ takes. takes ≡ (awaits_log self.now.state.phase
-            && (same_node from.now self.now.state.order.backup
-            && is_log self.now.state.order.lo self.now.state.order.hi entries.now))) }
-    {
-        let awaits = matches!(&self.stage, RecoveryStage::Asking { log: None, .. });
-        if !awaits || *from != self.order.backup {
-            return Ok(false);
-        }
-        let log = Log::from_entries(self.alloc, self.order.lo, self.order.hi, entries)?;
-        Ok(log.is_some())
+        heard(self.alloc, self.on_log(entries.as_slice()))
     }
 
     fn on_frozen_answer(
@@ -381,38 +359,6 @@ impl Recovery {
         RecoveryError::Ignored {
             phase: self.phase(),
         }
-    }
-
-    // What is there once the log and the requests are, and the appends of the first round.
-    #[tactic(auto, using(crate::proofs::Behind::replayed_behind))]
-    fn storing(
-        &self,
-        entries: &[Entry],
-        requests: &[Shared<Request>],
-    ) -> Result<(RecoveryStage, Done), NoMemory>
-        requires is_log { is_log self.now.state.order.lo self.now.state.order.hi entries.now ≡ true }
-        ensures stage { IfOk result (λ stored. IsStage self.now.state.order stored.0) }
-        ensures state { IfOk result (λ stored. record { order = self.now.state.order; phase = phase_of stored.0 }
-            ≡ (both_there self.now.number self.now.state.order (Some entries.now) (Some requests.now)).state) }
-        ensures done { IfOk result (λ stored. stored.1
-            ≡ done_of (both_there self.now.number self.now.state.order (Some entries.now) (Some requests.now))) }
-    {
-        let order = &self.order;
-        let log = replayed(self.alloc, order.lo, order.hi, entries, requests)?;
-        let backups = order.backups.as_slice();
-        let whole = with_replayed(self.alloc, entries, &log)?;
-        let sent = messages::appends(self.alloc, self.number, order.epoch, 1, &whole, backups)?;
-        let replayed = ReplayedLog {
-            log,
-            cut: entries.len() as u64,
-            round: 1,
-            complete: Vec::new(self.alloc),
-        };
-        let stage = RecoveryStage::Replayed {
-            replayed,
-            awaited: Awaited::Storing,
-        };
-        Ok((stage, Done::sends(sent)))
     }
 }
 

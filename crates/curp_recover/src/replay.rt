@@ -1,69 +1,89 @@
-ghost use Rattle.std.specs.Prelude.{◌≡◌, ◌≤◌, ◌++◌, ◌∷◌, [], true, drop, length, IfOk, OnOk};
-ghost use Rattle.curp_model.specs.Log.{fits_at, is_log, meaning};
-ghost use Rattle.curp_model.specs.Recovery.{replay};
+ghost use Rattle.std.specs.Prelude.{◌≡◌, true, Some, IfOk, OnOk};
+ghost use Rattle.curp_model.specs.Log.{is_log};
+ghost use Rattle.curp_model.specs.Recovery.{both_there, replay};
+ghost use Rattle.curp_msg.specs.Moved.{done_of};
+ghost use Rattle.curp_recover.specs.Stage.{IsStage, phase_of};
 
-use curp_base::{NoMemory, Shared, copies_of};
+use crate::messages;
+use crate::stage::{Awaited, FencedLog, RecoveryStage, ReplayedLog};
+use curp_base::{Items, NoMemory, Shared, copies_of};
 use curp_cmd::{Entry, Request, room};
 use curp_log::Log;
 use curp_model::Check;
+use curp_msg::{Done, Recover};
 use std::alloc::Global;
 
-/// The log with these entries, and behind them each of the requests that is replayed.
-pub fn replayed(
+/// The log comes, which has these entries: with the requests it is stored, and without them it waits.
+pub fn with_log(
     alloc: Global,
-    lo: u64,
-    hi: u64,
+    number: u32,
+    order: &Recover,
+    log: Log,
+    entries: &[Entry],
+    requests: &Option<Items<Shared<Request>>>,
+) -> Result<(RecoveryStage, Done), NoMemory>
+    requires lo { log.lo ≡ order.now.lo }
+    requires hi { log.hi ≡ order.now.hi }
+    requires entries { log.entries ≡ entries.now }
+    requires is_log { is_log order.now.lo order.now.hi entries.now ≡ true }
+    ensures stage { IfOk result (λ made. IsStage order.now made.0) }
+    ensures state { IfOk result (λ made. record { order = order.now; phase = phase_of made.0 }
+        ≡ (both_there number order.now (Some entries.now) requests.now).state) }
+    ensures done { IfOk result (λ made. made.1
+        ≡ done_of (both_there number order.now (Some entries.now) requests.now)) }
+{
+    match requests {
+        Some(requests) => storing(alloc, number, order, log, entries, requests.as_slice()),
+        None => {
+            let log = Some(FencedLog {
+                log: Some(log),
+                entries: Items::new(copies_of(alloc, entries)?),
+            });
+            let stage = RecoveryStage::Asking {
+                log,
+                requests: None,
+            };
+            Ok((stage, Done::quiet(alloc)))
+        }
+    }
+}
+
+/// The log, which has these entries, and the requests are there: these are replayed behind it, and the whole goes to each
+/// fresh backup, in the first round.
+#[tactic(auto, using(crate::proofs::Behind::replayed_behind))]
+pub fn storing(
+    alloc: Global,
+    number: u32,
+    order: &Recover,
+    mut log: Log,
     entries: &[Entry],
     requests: &[Shared<Request>],
-) -> Result<Log, NoMemory>
-    requires ordered { lo ≤ hi }
-    requires is_log { is_log lo hi entries.now ≡ true }
-    ensures lo { IfOk result (λ log. log.lo ≡ lo) }
-    ensures hi { IfOk result (λ log. log.hi ≡ hi) }
-    ensures entries { IfOk result (λ log. log.entries ≡ replay lo hi entries.now requests.now) }
+) -> Result<(RecoveryStage, Done), NoMemory>
+    requires lo { log.lo ≡ order.now.lo }
+    requires hi { log.hi ≡ order.now.hi }
+    requires entries { log.entries ≡ entries.now }
+    ensures stage { IfOk result (λ made. IsStage order.now made.0) }
+    ensures state { IfOk result (λ made. record { order = order.now; phase = phase_of made.0 }
+        ≡ (both_there number order.now (Some entries.now) (Some requests.now)).state) }
+    ensures done { IfOk result (λ made. made.1
+        ≡ done_of (both_there number order.now (Some entries.now) (Some requests.now))) }
 {
-    let mut log = restored(alloc, lo, hi, entries)?;
     replay(&mut log, requests)?;
-    Ok(log)
-}
-
-/// The log with these entries.
-fn restored(alloc: Global, lo: u64, hi: u64, entries: &[Entry]) -> Result<Log, NoMemory>
-    requires ordered { lo ≤ hi }
-    requires is_log { is_log lo hi entries.now ≡ true }
-    ensures lo { IfOk result (λ log. log.lo ≡ lo) }
-    ensures hi { IfOk result (λ log. log.hi ≡ hi) }
-    ensures entries { IfOk result (λ log. log.entries ≡ entries.now) }
-{
-    let mut log = Log::begin(alloc, lo, hi)?;
-    fill(&mut log, alloc, entries)?;
-    Ok(log)
-}
-
-// An empty log gets these entries.
-fn fill(log: &mut Log, alloc: Global, entries: &[Entry]) -> Result<(), NoMemory>
-    requires empty { log.old.entries ≡ [] }
-    requires is_log { is_log log.old.lo log.old.hi entries.now ≡ true }
-    ensures lo { log.new.lo ≡ log.old.lo }
-    ensures hi { log.new.hi ≡ log.old.hi }
-    ensures entries { OnOk result (log.new.entries ≡ entries.now) }
-{
-    for entry in entries {
-        add(log, alloc, entry)?;
-    }
-    Ok(())
-}
-
-// An entry more, which fits.
-fn add(log: &mut Log, alloc: Global, entry: &Entry) -> Result<(), NoMemory>
-    requires { fits_at (meaning log.old.lo log.old.hi log.old.entries) entry.now ≡ true }
-    ensures lo { log.new.lo ≡ log.old.lo }
-    ensures hi { log.new.hi ≡ log.old.hi }
-    ensures entries { OnOk result (log.new.entries ≡ log.old.entries ++ entry.now ∷ []) }
-{
-    log.reserve(room(entry))?;
-    log.push(entry.copy(alloc)?);
-    Ok(())
+    let cut = entries.len() as u64;
+    let behind = log.suffix(cut)?;
+    let backups = order.backups.as_slice();
+    let sent = messages::appends(alloc, number, order.epoch, 1, entries, &behind, backups)?;
+    let replayed = ReplayedLog {
+        log,
+        cut,
+        round: 1,
+        complete: Vec::new(alloc),
+    };
+    let stage = RecoveryStage::Replayed {
+        replayed,
+        awaited: Awaited::Storing,
+    };
+    Ok((stage, Done::sends(sent)))
 }
 
 /// Pushes each request that is new and whose hashes are owned, in order.
@@ -83,15 +103,4 @@ fn replay(log: &mut Log, requests: &[Shared<Request>]) -> Result<(), NoMemory>
         }
     }
     Ok(())
-}
-
-/// The entries of a log and what was replayed behind them. It shares the requests of these entries, where a copy of the oldest
-/// entries of the log itself would be decoded anew.
-pub fn with_replayed(alloc: Global, entries: &[Entry], log: &Log) -> Result<Vec<Entry>, NoMemory>
-    ensures { IfOk result (λ whole. whole.items ≡ entries.now ++ drop (length entries.now) log.now.entries) }
-{
-    let mut whole = copies_of(alloc, entries)?;
-    let mut replayed = log.suffix(entries.len() as u64)?;
-    whole.append(&mut replayed)?;
-    Ok(whole)
 }

@@ -1,9 +1,9 @@
-ghost use Rattle.std.specs.Prelude.{◌≡◌, ◌&&◌, if◌then◌else◌, [], filter, length, nat_le, not, OnOk, OnErr, IfOk};
+ghost use Rattle.std.specs.Prelude.{◌≡◌, ◌&&◌, if◌then◌else◌, [], filter, length, nat_le, not, None, OnOk, OnErr, IfOk};
 ghost use Rattle.std.specs.List.{list_all};
 ghost use Rattle.curp_cmd.specs.Node.{is_among};
 ghost use Rattle.curp_model.specs.Recovery.{all_complete, recovered_message, with_complete};
 ghost use Rattle.curp_recover.specs.Answers.{appends_again, replayed_again};
-ghost use Rattle.curp_recover.specs.Stage.{replayed_of};
+ghost use Rattle.curp_recover.specs.Stage.{IsFenced, replayed_of};
 
 use crate::messages;
 use curp_base::{Items, NoMemory, Shared};
@@ -11,6 +11,15 @@ use curp_cmd::{Entry, NodeId, Request};
 use curp_log::Log;
 use curp_msg::{Message, Recover};
 use std::alloc::Global;
+
+/// The log of the backup, before the replay.
+#[derive(Drop)]
+pub struct FencedLog {
+    /// It isn't there any more once a replay has begun that then ran out of memory.
+    pub log: Option<Log>,
+    /// What is sent shares the requests of these, where a copy of the oldest entries of the log would be decoded anew.
+    pub entries: Items<Entry>,
+}
 
 /// The log with the replayed requests behind it.
 #[derive(Drop)]
@@ -38,13 +47,33 @@ pub enum Awaited {
 pub enum RecoveryStage {
     /// The log and the requests, as far as they are there.
     Asking {
-        log: Option<Items<Entry>>,
+        log: Option<FencedLog>,
         requests: Option<Items<Shared<Request>>>,
     },
     Replayed {
         replayed: ReplayedLog,
         awaited: Awaited,
     },
+}
+
+impl FencedLog {
+    /// The log, which is taken out. Where it isn't there any more it is built anew.
+    pub fn take_log(&mut self, alloc: Global, order: &Recover) -> Result<Log, NoMemory>
+        requires { IsFenced order.now self.old }
+        ensures lo { IfOk result (λ log. log.lo ≡ order.now.lo) }
+        ensures hi { IfOk result (λ log. log.hi ≡ order.now.hi) }
+        ensures entries { IfOk result (λ log. log.entries ≡ self.old.entries) }
+        ensures taken { self.new.log ≡ None }
+        ensures kept { self.new.entries ≡ self.old.entries }
+    {
+        if let Some(log) = self.log.take() {
+            return Ok(log);
+        }
+        match Log::from_entries(alloc, order.lo, order.hi, self.entries.as_slice())? {
+            Some(log) => Ok(log),
+            None => unreachable!(),
+        }
+    }
 }
 
 impl ReplayedLog {
@@ -142,7 +171,7 @@ impl ReplayedLog {
         let round = self.round + 1;
         let left = self.incomplete(alloc, order.backups.as_slice())?;
         let whole = self.log.suffix(0)?;
-        let sent = messages::appends(alloc, number, order.epoch, round, &whole, &left)?;
+        let sent = messages::appends(alloc, number, order.epoch, round, &whole, &[], &left)?;
         self.round = round;
         Ok(sent)
     }

@@ -7,5 +7,5 @@ use Rattle.curp_recover.proofs.messages.appends.Given as goal
 -- the messages so far, and those to the backups that are left
 abbrev pub invariant-loop-backup : goal.invariant-loop-backup
 invariant-loop-backup l =
-    l.messages.items ++ says_each (master_node l.number) (drop l.backup-index l.backups) (body.Append (record { epoch = l.epoch; base = 0; round = l.round; entries = l.whole }))
-    ≡ says_each (master_node l.number) l.backups (body.Append (record { epoch = l.epoch; base = 0; round = l.round; entries = l.whole }))
+    l.messages.items ++ says_each (master_node l.number) (drop l.backup-index l.backups) (body.Append (record { epoch = l.epoch; base = 0; round = l.round; entries = l.entries ++ l.behind }))
+    ≡ says_each (master_node l.number) l.backups (body.Append (record { epoch = l.epoch; base = 0; round = l.round; entries = l.entries ++ l.behind }))
