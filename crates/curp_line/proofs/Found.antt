@@ -1,15 +1,16 @@
 -- How adoptions are found, as one more comes.
-use Rattle.std.proofs.Common.{◌≡◌, ℕ, suc, ◌+◌, ◌<◌, if◌then◌else◌, not, Bool, true, false, List, [], ◌∷◌, ◌++◌, length, map, Option, Some, None, refl, ap, sym, ◌∙◌, subst, arith}
+use Rattle.std.proofs.Common.{◌≡◌, ℕ, suc, ◌+◌, ◌<◌, ◌==◌, if◌then◌else◌, not, Bool, true, false, List, [], ◌∷◌, ◌++◌, length, map, Option, Some, None, refl, ap, sym, ◌∙◌, subst, arith}
 use Rattle.std.proofs.lemmas.Bool.Decides.{nat_tests}
-use Rattle.std.proofs.lemmas.List.{map-append}
-use Rattle.std.specs.List.{filter, position_or_len}
+use Rattle.std.proofs.lemmas.List.{length-map, map-append}
+use Rattle.std.specs.List.{position_or_len}
 use Rattle.std.specs.Option.{option_map, unwrap_or}
 use Rattle.curp_base.specs.Words.{Each}
 use Rattle.curp_base.proofs.Lists.{Each-append, Each-weaker}
-use Rattle.curp_line.specs.Cuts.{AreFound, EpochsAscend, epoch_of, first_place, how_many, is_cut_at, is_cut_of, is_cut_to, is_epoch_of, is_epoch_to}
+use Rattle.curp_line.specs.Cuts.{AreFound, epoch_of, epoch_place, first_place, how_many, is_cut_at, is_cut_of, is_cut_to, is_epoch_of, is_epoch_to, nth_place, part_of}
 use Rattle.curp_line.specs.declared.cuts.Cut.{Cut}
 use Rattle.curp_line.specs.declared.epochs.CutEpoch.{CutEpoch}
-use Rattle.curp_line.proofs.Ascending.{how_many_append, how_many_cons, one}
+use Rattle.curp_line.proofs.Ascending.{how_many_all, how_many_append, how_many_cons, how_many_map, how_many_push, one}
+use Rattle.curp_line.proofs.Ranks.{place_pushed}
 
 -- ---- first places
 
@@ -55,15 +56,6 @@ first_or_len p (x ∷ xs) = go (p x) (first_or_len p xs)
 
 -- ---- those of a partition
 
-how_many_map : {A B : Type 0} (p : B → Bool) (f : A → B) (xs : List A) → how_many p (map f xs) ≡ how_many (λ x. p (f x)) xs
-how_many_map p f [] = refl
-how_many_map p f (x ∷ xs) = go (p (f x)) (how_many_map p f xs)
-  where
-    go : (b : Bool) → how_many p (map f xs) ≡ how_many (λ x. p (f x)) xs
-        → length (if b then f x ∷ filter p (map f xs) else filter p (map f xs)) ≡ length (if b then x ∷ filter (λ x. p (f x)) xs else filter (λ x. p (f x)) xs)
-    go true rest = ap suc rest
-    go false rest = rest
-
 none_at : (part earlier : ℕ) (cuts : List Cut) → Each (λ (c : Cut). c.term.part ≡ part → c.earlier < earlier) cuts → first_place (is_cut_at part earlier) cuts ≡ None
 none_at part earlier [] h = refl
 none_at part earlier (c ∷ cuts) h =
@@ -73,7 +65,7 @@ none_at part earlier (c ∷ cuts) h =
     not_here : (c : Cut) → (c.term.part ≡ part → c.earlier < earlier) → is_cut_at part earlier c ≡ false
     not_here c h = grind (arith, nat_tests, h)
 
-module _ (place : ℕ → ℕ → Option ℕ) (epochs : List CutEpoch) (cuts : List Cut) (f : AreFound place epochs cuts) where
+module _ (epochs : List CutEpoch) (cuts : List Cut) (f : AreFound epochs cuts) where
   pub cuts_of : (part : ℕ) → how_many (is_epoch_of part) epochs ≡ how_many (is_cut_of part) cuts
   cuts_of part = f.counted (is_epoch_of part) ∙ how_many_map (is_epoch_of part) epoch_of cuts
 
@@ -81,24 +73,31 @@ module _ (place : ℕ → ℕ → Option ℕ) (epochs : List CutEpoch) (cuts : L
   cuts_to part epoch = f.counted (is_epoch_to part epoch) ∙ how_many_map (is_epoch_to part epoch) epoch_of cuts
 
   -- the place by the number is the first one
-  pub place_found : (part earlier : ℕ) → unwrap_or (place part earlier) (length cuts) ≡ position_or_len (is_cut_at part earlier) cuts
+  pub place_found : (part earlier : ℕ) → unwrap_or (epoch_place part earlier epochs) (length cuts) ≡ position_or_len (is_cut_at part earlier) cuts
   place_found part earlier = ap (λ r. unwrap_or r (length cuts)) (f.placed part earlier) ∙ first_or_len (is_cut_at part earlier) cuts
 
   -- one adoption more, behind those of its partition
-  pub found_push : (place' : ℕ → ℕ → Option ℕ) (epochs' : List CutEpoch) (c : Cut) → c.earlier ≡ how_many (is_cut_of c.term.part) cuts
-      → ((part earlier : ℕ) → place' part earlier ≡ (if is_cut_at part earlier c then Some (length cuts) else place part earlier))
+  pub found_push : (epochs' : List CutEpoch) (c : Cut) → c.earlier ≡ how_many (is_epoch_of c.term.part) epochs
+      → map part_of epochs' ≡ map part_of epochs ++ c.term.part ∷ []
       → ((test : CutEpoch → Bool) → how_many test epochs' ≡ how_many test epochs + one (test (epoch_of c)))
-      → EpochsAscend epochs' → AreFound place' epochs' (cuts ++ c ∷ [])
-  found_push place' epochs' c number places counts ascend = record {
+      → AreFound epochs' (cuts ++ c ∷ [])
+  found_push epochs' c number parts counts = record {
     placed = λ part earlier. places part earlier ∙ go part earlier (is_cut_at part earlier c) refl ∙ sym (first_place_push (is_cut_at part earlier) cuts c);
     numbered = λ part. Each-append (λ (d : Cut). d.term.part ≡ part → d.earlier < how_many (is_cut_of part) (cuts ++ c ∷ [])) cuts (c ∷ [])
         (Each-weaker (λ (d : Cut). d.term.part ≡ part → d.earlier < how_many (is_cut_of part) cuts) (λ (d : Cut). d.term.part ≡ part → d.earlier < how_many (is_cut_of part) (cuts ++ c ∷ []))
         (λ d h e. let l = h e in let more = how_many_append (is_cut_of part) cuts (c ∷ []) in omega (arith, l, more)) cuts (f.numbered part))
         (λ e. here part e, tt);
-    counted = λ test. counts test ∙ sym (ap (how_many test) (map-append epoch_of cuts (c ∷ [])) ∙ how_many_append test (map epoch_of cuts) (epoch_of c ∷ []) ∙ rest test);
-    ascend = ascend;
+    counted = λ test. counts test ∙ sym (ap (how_many test) (map-append epoch_of cuts (c ∷ [])) ∙ how_many_push test (map epoch_of cuts) (epoch_of c) ∙ ap (λ n. n + one (test (epoch_of c))) (sym (f.counted test)));
   }
     where
+      long : length epochs ≡ length cuts
+      long = sym (how_many_all epochs) ∙ f.counted (λ _. true) ∙ how_many_all (map epoch_of cuts) ∙ length-map cuts epoch_of
+
+      places : (part earlier : ℕ) → epoch_place part earlier epochs' ≡ (if is_cut_at part earlier c then Some (length cuts) else epoch_place part earlier epochs)
+      places part earlier =
+          ap (λ ns. nth_place (λ other. other == part) ns earlier) parts ∙ place_pushed part earlier epochs c.term.part c.earlier number
+          ∙ ap (λ n. if is_cut_at part earlier c then Some n else epoch_place part earlier epochs) long
+
       own : (part : ℕ) → c.term.part ≡ part → one (is_cut_of part c) ≡ 1
       own part e = grind (arith, nat_tests)
 
@@ -110,11 +109,11 @@ module _ (place : ℕ → ℕ → Option ℕ) (epochs : List CutEpoch) (cuts : L
 
       none_yet : (part earlier : ℕ) → is_cut_at part earlier c ≡ true → first_place (is_cut_at part earlier) cuts ≡ None
       none_yet part earlier e =
-          let all : earlier ≡ how_many (is_cut_of part) cuts = sym (its_number part earlier e) ∙ number ∙ ap (λ (n : ℕ). how_many (is_cut_of n) cuts) (its_part part earlier e) in
+          let all : earlier ≡ how_many (is_cut_of part) cuts = sym (its_number part earlier e) ∙ number ∙ cuts_of c.term.part ∙ ap (λ (n : ℕ). how_many (is_cut_of n) cuts) (its_part part earlier e) in
           none_at part earlier cuts (subst (λ (n : ℕ). Each (λ (d : Cut). d.term.part ≡ part → d.earlier < n) cuts) (sym all) (f.numbered part))
 
       go : (part earlier : ℕ) (b : Bool) → is_cut_at part earlier c ≡ b
-          → (if b then Some (length cuts) else place part earlier) ≡ or_else (first_place (is_cut_at part earlier) cuts) (if b then Some (length cuts) else None)
+          → (if b then Some (length cuts) else epoch_place part earlier epochs) ≡ or_else (first_place (is_cut_at part earlier) cuts) (if b then Some (length cuts) else None)
       go part earlier true e =
           let none : first_place (is_cut_at part earlier) cuts ≡ None = none_yet part earlier e in
           rw none refl
@@ -126,17 +125,4 @@ module _ (place : ℕ → ℕ → Option ℕ) (epochs : List CutEpoch) (cuts : L
           let itself = how_many_cons (is_cut_of part) c [] in
           let its : one (is_cut_of part c) ≡ 1 = own part e in
           let count = ap (λ (n : ℕ). how_many (is_cut_of n) cuts) e in
-          omega (arith, more, itself, its, number, count)
-
-      rest : (test : CutEpoch → Bool) → how_many test (map epoch_of cuts) + how_many test (epoch_of c ∷ []) ≡ how_many test epochs + one (test (epoch_of c))
-      rest test =
-          let itself = how_many_cons test (epoch_of c) [] in
-          omega (arith, itself, f.counted test)
-
-pub found_same : (place place' : ℕ → ℕ → Option ℕ) (epochs : List CutEpoch) (cuts : List Cut) → ((part earlier : ℕ) → place' part earlier ≡ place part earlier) → AreFound place epochs cuts → AreFound place' epochs cuts
-found_same place place' epochs cuts same f = record {
-  placed = λ part earlier. same part earlier ∙ f.placed part earlier;
-  numbered = f.numbered;
-  counted = f.counted;
-  ascend = f.ascend;
-}
+          omega (arith, more, itself, its, number, cuts_of c.term.part, count)

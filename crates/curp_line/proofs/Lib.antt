@@ -4,4 +4,5 @@ pub mod Found
 pub mod Kept
 pub mod Links
 pub mod Places
+pub mod Ranks
 pub mod Runs

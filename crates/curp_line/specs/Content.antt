@@ -1,7 +1,8 @@
--- What contracts see of the marks, of the slots and of the adoptions, and for how many more there is room.
+-- What contracts see of the marks, of the slots, of the adoptions and of their epochs, and for how many more there is room.
 use Rattle.std.specs.Prelude.{ℕ, List}
 use Rattle.curp_model.specs.Marks.{Mark}
 use Rattle.curp_line.specs.declared.cuts.Cut.{Cut}
+use Rattle.curp_line.specs.declared.epochs.CutEpoch.{CutEpoch}
 use Rattle.curp_line.specs.declared.slot.MarkSlot.{MarkSlot}
 
 pub record Marking : Type 0 where
@@ -14,4 +15,8 @@ pub record Slotted : Type 0 where
 
 pub record Adoptions : Type 0 where
   pub cuts : List Cut
+  pub spare : ℕ
+
+pub record Epochs : Type 0 where
+  pub epochs : List CutEpoch
   pub spare : ℕ

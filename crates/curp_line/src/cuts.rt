@@ -2,11 +2,11 @@ ghost use Rattle.std.specs.Prelude.{◌≡◌, ◌+◌, ◌≤◌, [], ◌∷◌
 ghost use Rattle.std.specs.List.{position_or_len};
 ghost use Rattle.curp_line.specs.Cuts.{how_many, is_cut_at, is_cut_of, is_cut_to};
 
-use crate::epochs::{CutEpoch, add_epoch, count_of, count_to};
+use crate::cut_epochs::CutEpochs;
+use crate::epochs::CutEpoch;
 use crate::term::Term;
 use curp_base::{NoMemory, Reserved};
 use std::alloc::Global;
-use std::collections::HashMap;
 use std::marker::Model;
 
 /// An adoption, before or behind which marks stand. It is of no request.
@@ -22,32 +22,24 @@ pub struct Cut {
 /// The adoptions, in the order in which they came. Contracts see them, and for how many more there is room.
 ///
 /// That one is found by its number, and how many there are up to an epoch by a binary search, is this project's own
-/// choice. An adoption moves the epochs above its own, and those of higher partitions.
+/// choice. An adoption moves the epochs of its partition that are above its own, and those of no other: where a
+/// partition's epochs rise, none.
 #[derive(Drop)]
 pub struct Cuts {
     list: Reserved<Cut>,
-    // The place of each in the list, by its partition and how often that was adopted before.
-    places: HashMap<(u32, usize), usize>,
-    epochs: Reserved<CutEpoch>,
+    epochs: CutEpochs,
 }
 
 impl Model for Cuts {
-    ghost use Rattle.std.specs.Prelude.{◌==◌, ◌&&◌, min};
-    ghost use Rattle.std.specs.HashMap.{get, spare};
+    ghost use Rattle.std.specs.Prelude.{min};
     ghost use Rattle.curp_line.specs.Content.{Adoptions};
     ghost use Rattle.curp_line.specs.Cuts.{AreFound};
 
     ghost Value = { Adoptions };
 
-    ghost view = { λ c. record {
-      cuts = c.list.items;
-      spare = min c.list.spare (min (spare c.places) c.epochs.spare);
-    } };
+    ghost view = { λ c. record { cuts = c.list.items; spare = min c.list.spare c.epochs.spare } };
 
-    ghost invariant = { λ c. AreFound
-        (λ part earlier. get (λ a b. (a.0 == b.0) && (a.1 == b.1)) c.places (part, earlier))
-        c.epochs.items
-        c.list.items };
+    ghost invariant = { λ c. AreFound c.epochs.epochs c.list.items };
 }
 
 impl Cuts {
@@ -57,8 +49,7 @@ impl Cuts {
     {
         Cuts {
             list: Reserved::new(alloc),
-            places: HashMap::new(alloc),
-            epochs: Reserved::new(alloc),
+            epochs: CutEpochs::new(alloc),
         }
     }
 
@@ -69,8 +60,7 @@ impl Cuts {
         ensures kept { self.old.spare ≤ self.new.spare }
     {
         self.list.reserve(cuts as u64)?;
-        self.places.reserve(cuts)?;
-        self.epochs.reserve(cuts as u64)
+        self.epochs.reserve(cuts)
     }
 
     /// How many adoptions there are.
@@ -91,10 +81,8 @@ impl Cuts {
         ensures spare { self.old.spare ≤ self.new.spare + 1 }
     {
         let Term { part, epoch, .. } = term;
-        let earlier = count_of(&self.epochs, part);
-        let replaced: Result<_, _> = self.places.insert((part, earlier), self.list.len());
-        replaced.unwrap();
-        add_epoch(&mut self.epochs, CutEpoch { part, epoch });
+        let earlier = self.epochs.count_of(part);
+        self.epochs.add(CutEpoch { part, epoch });
         self.list.push(Cut {
             term,
             earlier,
@@ -108,8 +96,8 @@ impl Cuts {
         ensures { result
             ≡ position_or_len (is_cut_at part (how_many (is_cut_to part epoch) self.now.cuts)) self.now.cuts }
     {
-        let earlier = count_to(&self.epochs, part, epoch);
-        let place = self.places.get(&(part, earlier)).copied();
+        let earlier = self.epochs.count_to(part, epoch);
+        let place = self.epochs.place_of(part, earlier);
         place.unwrap_or(self.list.len())
     }
 }

@@ -1,9 +1,9 @@
-//! The epochs of adoptions, in ascending order, so that those of a partition stand together.
-ghost use Rattle.std.specs.Prelude.{◌≡◌, ◌+◌, ◌≤◌, if◌then◌else◌, Bool, length};
-ghost use Rattle.std.specs.List.{insert};
-ghost use Rattle.curp_line.specs.Cuts.{EpochsAscend, how_many, is_below, is_epoch_of, is_epoch_to, is_through, is_up_to};
+//! The epochs of adoptions: one at the place of each in the list of all. Those of a partition ascend from place to place.
+ghost use Rattle.std.specs.Prelude.{◌≡◌, ◌+◌, ◌≤◌, ◌++◌, ◌∷◌, [], if◌then◌else◌, ℕ, Bool, map};
+ghost use Rattle.curp_line.specs.Cuts.{ArePlaced, EpochsAscend, epochs_of, how_many, is_epoch_of, is_epoch_to, part_of};
 
 use curp_base::Reserved;
+use std::collections::HashMap;
 
 /// The partition and the epoch of an adoption.
 #[derive(Clone, Copy)]
@@ -12,58 +12,56 @@ pub struct CutEpoch {
     pub epoch: u32,
 }
 
-/// How many epochs belong to partitions below this one.
-fn count_below(epochs: &[CutEpoch], part: u32) -> usize
-    requires { EpochsAscend epochs.now }
-    ensures within { result ≤ length epochs.now }
-    ensures count { result ≡ how_many (is_below part) epochs.now }
+/// The place of each epoch, by its partition and how many of that stand before it.
+pub type EpochPlaces = HashMap<(u32, usize), usize>;
+
+/// How many epochs the partition has, of so many in all, that are no higher than that. It is a binary search.
+pub fn count_to(places: &EpochPlaces, epochs: &[CutEpoch], count: usize, top: CutEpoch) -> usize
+    requires placed { ArePlaced places.now epochs.now }
+    requires count { count ≡ how_many (is_epoch_of top.part) epochs.now }
+    requires ascend { EpochsAscend (epochs_of top.part epochs.now) }
+    ensures { result ≡ how_many (is_epoch_to top.part top.epoch) epochs.now }
 {
-    epochs.partition_point(|cut| cut.part < part)
+    let mut low = 0;
+    let mut high = count;
+    while low < high {
+        let middle = low + (high - low) / 2;
+        let at = places.get(&(top.part, middle)).copied().unwrap();
+        if epochs[at].epoch <= top.epoch {
+            low = middle + 1;
+        } else {
+            high = middle;
+        }
+    }
+    low
 }
 
-/// How many epochs belong to this partition or to those below it.
-fn count_through(epochs: &[CutEpoch], part: u32) -> usize
-    requires { EpochsAscend epochs.now }
-    ensures within { result ≤ length epochs.now }
-    ensures count { result ≡ how_many (is_through part) epochs.now }
-{
-    epochs.partition_point(|cut| cut.part <= part)
-}
-
-/// How many epochs belong to partitions below this one, or to this one and are no higher than that.
-fn count_up_to(epochs: &[CutEpoch], part: u32, epoch: u32) -> usize
-    requires { EpochsAscend epochs.now }
-    ensures within { result ≤ length epochs.now }
-    ensures count { result ≡ how_many (is_up_to part epoch) epochs.now }
-{
-    epochs.partition_point(|cut| cut.part < part || (cut.part == part && cut.epoch <= epoch))
-}
-
-/// How many epochs the partition has.
-pub fn count_of(epochs: &[CutEpoch], part: u32) -> usize
-    requires { EpochsAscend epochs.now }
-    ensures { result ≡ how_many (is_epoch_of part) epochs.now }
-{
-    count_through(epochs, part) - count_below(epochs, part)
-}
-
-/// How many epochs the partition has that are no higher than that.
-pub fn count_to(epochs: &[CutEpoch], part: u32, epoch: u32) -> usize
-    requires { EpochsAscend epochs.now }
-    ensures { result ≡ how_many (is_epoch_to part epoch) epochs.now }
-{
-    count_up_to(epochs, part, epoch) - count_below(epochs, part)
-}
-
-/// Adds an epoch. It takes no memory.
-pub fn add_epoch(epochs: &mut Reserved<CutEpoch>, added: CutEpoch)
-    requires ascend { EpochsAscend epochs.old.items }
+/// Adds an epoch, where the partition has so many. It takes no memory. Each higher one of the partition goes to the place
+/// of the next, and the last of them behind all.
+pub fn add_epoch(
+    places: &EpochPlaces,
+    epochs: &mut Reserved<CutEpoch>,
+    count: usize,
+    added: CutEpoch,
+)
     requires room { 1 ≤ epochs.old.spare }
-    ensures items { (test : CutEpoch → Bool)
+    requires placed { ArePlaced places.now epochs.old.items }
+    requires count { count ≡ how_many (is_epoch_of added.part) epochs.old.items }
+    requires ascend { (part : ℕ) → EpochsAscend (epochs_of part epochs.old.items) }
+    ensures parts { map part_of epochs.new.items ≡ map part_of epochs.old.items ++ added.part ∷ [] }
+    ensures counted { (test : CutEpoch → Bool)
         → how_many test epochs.new.items ≡ how_many test epochs.old.items + (if test added then 1 else 0) }
-    ensures ascend { EpochsAscend epochs.new.items }
-    ensures spare { epochs.old.spare ≤ epochs.new.spare + 1 }
+    ensures ascend { (part : ℕ) → EpochsAscend (epochs_of part epochs.new.items) }
+    ensures spare { epochs.new.spare + 1 ≡ epochs.old.spare }
 {
-    let gap = count_up_to(epochs, added.part, added.epoch);
-    epochs.insert(gap, added);
+    let mut carried = added;
+    let mut rank = count_to(places, epochs, count, added);
+    while rank < count {
+        let at = places.get(&(added.part, rank)).copied().unwrap();
+        let higher = epochs[at];
+        epochs.set(at, carried);
+        carried = higher;
+        rank += 1;
+    }
+    epochs.push(carried);
 }

@@ -4,9 +4,10 @@
 //! `executed`, `looked`, `quick`, `completed`, `adopted`, `order`: exact over the list of marks (`Marks.antt` of
 //! `curp_model`). All but `order` take no memory; `reserve` makes the room that they ask for. A completion looks at the
 //! marks of its request alone, an adoption at those of its partition and of the requests that are replayed, and a read
-//! that was answered at once at none: it finds the adoption that it stands before by a binary search of the epochs.
+//! that was answered at once at none: it finds the adoption that it stands before by a binary search of its partition's.
 #![tactic(auto)]
 
+mod cut_epochs;
 mod cuts;
 mod epochs;
 mod key;

@@ -249,6 +249,85 @@ fn a_read_at_once_comes_before_the_adoption_behind_its_master(rt: HostRuntime) {
     drop(line);
 }
 
+// Three partitions are adopted in turn, and the epochs of two of them fall: the partition and the epoch.
+const FALLING: [(u32, u32); 6] = [(1, 5), (2, 2), (1, 3), (0, 9), (1, 4), (2, 1)];
+
+// Each adoption replays one update.
+fn adopted_in_turn(rt: &impl Abort, alloc: Global) -> Line {
+    let mut line = Line::new(alloc);
+    let mut number = 0_u32;
+    for (part, epoch) in FALLING {
+        number = number.wrapping_add(1);
+        let term = Term {
+            master: SECOND,
+            part,
+            epoch,
+        };
+        let adoption = (term, u64::from(number));
+        adopt_ids(rt, alloc, &mut line, adoption, &[id(1, number)]);
+    }
+    line
+}
+
+// The partition and the epoch of masters that answer a read at once.
+const ANSWERED: [(u32, u32); 8] = [
+    (1, 2),
+    (1, 3),
+    (1, 4),
+    (1, 5),
+    (2, 1),
+    (2, 0),
+    (0, 8),
+    (0, 9),
+];
+
+fn answer_all(rt: &impl Abort, alloc: Global, line: &mut Line) {
+    let mut number = 0_u32;
+    for (part, epoch) in ANSWERED {
+        number = number.wrapping_add(1);
+        let by = Capture {
+            master: FIRST,
+            epoch,
+            number: u64::from(number),
+        };
+        let term = Term {
+            master: FIRST,
+            part,
+            epoch,
+        };
+        let read = read(rt, alloc);
+        made(rt, line.reserve(1));
+        line.quick(term, by.number, id(3, number), read);
+        read_by(line, id(3, number), by);
+    }
+}
+
+const ANSWERED_ORDER: [(u32, u32); 14] = [
+    (3, 1),
+    (1, 1),
+    (3, 6),
+    (1, 2),
+    (3, 2),
+    (1, 3),
+    (3, 7),
+    (1, 4),
+    (3, 3),
+    (1, 5),
+    (3, 5),
+    (1, 6),
+    (3, 4),
+    (3, 8),
+];
+
+// Behind as many of its partition's adoptions as are no later than its master, whichever came first.
+#[test]
+fn a_read_at_once_is_placed_by_the_epochs_of_its_partition(rt: HostRuntime) {
+    let mut line = adopted_in_turn(&rt, rt.alloc());
+    answer_all(&rt, rt.alloc(), &mut line);
+    try_order(&rt, &line, &ANSWERED_ORDER);
+    drop(line);
+}
+
 fn nth(n: u32) -> RequestId {
     id(n % 64, n / 64)
 }
