@@ -2,3 +2,4 @@ pub mod Found
 pub mod Kept
 pub mod Numbers
 pub mod Orders
+pub mod Told

@@ -1,5 +1,7 @@
 -- The numbers by which a client's orders are refused.
-use Rattle.std.specs.Prelude.{◌≡◌, ℕ, Result, Ok, Err}
+use Rattle.std.specs.Prelude.{◌≡◌, ◌≢◌, ℕ, [], None, Result, Ok, Err}
+use Rattle.std.specs.declared.alloc.AllocError.{AllocError}
+use Rattle.curp_msg.specs.declared.machine.Done.{Done}
 use Rattle.curp_client.specs.declared.error.InvokeError.{InvokeError}
 use Rattle.curp_client.specs.declared.error.InvokeError.TheVariants as invoke
 use Rattle.curp_client.specs.declared.error.RetryError.{RetryError}
@@ -27,3 +29,8 @@ TellsInvoke refused (Err why) = refused ≡ invoke_number why
 abbrev pub TellsRetry : {A : Type 0} → ℕ → Result A RetryError → Type 0
 TellsRetry refused (Ok done) = refused ≡ 0
 TellsRetry refused (Err why) = refused ≡ retry_number why
+
+-- a refusal is told by its number, which isn't 0; without one, memory was wanting
+abbrev pub TellsRefusal : ℕ → Result Done AllocError → Type 0
+TellsRefusal refusal (Ok done) = (refusal ≢ 0) × (done ≡ record { refused = refusal; sent = []; completed = None })
+TellsRefusal refusal (Err no_memory) = refusal ≡ 0

@@ -1,11 +1,11 @@
-ghost use Rattle.std.specs.Prelude.{◌≡◌, ◌<◌, length, Ok, Err, IfOk, IfErr, IfSome, OnOk};
+ghost use Rattle.std.specs.Prelude.{◌≡◌, ◌≢◌, ◌<◌, length, Ok, Err, IsOk, IfOk, IfErr, IfSome, OnOk};
 ghost use Rattle.std.specs.Option.{option_copied, option_map};
 ghost use Rattle.curp_base.specs.Words.{last_of};
 ghost use Rattle.curp_model.specs.Client as model;
 ghost use Rattle.curp_msg.specs.Moved.{Makes, Moves, numbered_move, quiet};
 ghost use Rattle.curp_client.specs.Evidence.{completes_if, concluded, kept};
 ghost use Rattle.curp_client.specs.Requests.{asks_once, least_of};
-ghost use Rattle.curp_client.specs.Refusals.{TellsInvoke, TellsRetry, invoke_number};
+ghost use Rattle.curp_client.specs.Refusals.{TellsInvoke, TellsRefusal, TellsRetry, invoke_number};
 
 use crate::evidence::{Accept, Early, Evidence, Glimpse, KnownMaster};
 use crate::owner::owner_of;
@@ -16,10 +16,10 @@ use crate::{InvokeError, RetryError};
 use curp_base::{NoMemory, Shared};
 use curp_cmd::{Command, NodeId, Request, RequestId};
 use curp_msg::{
-    Accepted, Body, Capture, Completed, Config, Done, Message, PartConfig, Probed, Protocol, Quick,
-    Reply, Worth,
+    Accepted, Body, Capture, Completed, Config, Core, Done, Local, Message, PartConfig, Probed,
+    Protocol, Quick, Reply, Worth,
 };
-use std::alloc::Global;
+use std::alloc::{AllocError, Global};
 use std::marker::Model;
 
 /// How many requests may be pending.
@@ -70,13 +70,7 @@ impl Model for Client {
 impl Client {
     /// A client of that number which has invoked nothing. One that isn't fast lets the master answer only what is
     /// synced. It takes no memory.
-    pub fn begin(
-        alloc: Global,
-        number: u32,
-        fast: bool,
-        protocol: Protocol,
-        config: Config,
-    ) -> Client
+    pub fn new(alloc: Global, number: u32, fast: bool, protocol: Protocol, config: Config) -> Client
         ensures number { result.number ≡ number }
         ensures state { result.state ≡ model.fresh_client fast protocol config }
     {
@@ -197,7 +191,44 @@ impl Client {
         })?;
         Ok(Done::sends(messages))
     }
+}
 
+impl Core for Client {
+    ghost use Rattle.curp_client.specs.Machine.{client_machine};
+    ghost use Rattle.curp_client.specs.Refused.{client_refusals, client_taken};
+
+    ghost machine = { client_machine };
+
+    ghost refusals = { client_refusals };
+
+    ghost messages_taken = { client_taken };
+
+    #[tactic(auto, unfolding(crate::specs::Machine::client_machine, curp_model::specs::Client::on_client))]
+    fn on_message(&mut self, message: &Message) -> Result<Done, NoMemory> {
+        match &message.body {
+            Body::Reply(reply) => self.on_reply(message.from, reply.get()),
+            Body::Accepted(accepted) => self.on_accepted(message.from, accepted),
+            Body::Worth(worth) => Ok(self.on_worth(message.from, worth.get())),
+            Body::Quick(quick) => self.on_quick(message.from, quick.get()),
+            Body::Probed(probed) => self.on_probed(message.from, probed),
+            Body::Rejected(rejected) => self.on_rejected(&rejected.id),
+            Body::Configuration { config } => self.on_configuration(config),
+            _ => Ok(Done::quiet(self.alloc)),
+        }
+    }
+
+    #[tactic(auto, unfolding(crate::specs::Machine::client_machine, curp_model::specs::Client::client_ordered))]
+    fn on_order(&mut self, order: &Local) -> Result<Done, NoMemory> {
+        match order {
+            Local::Invoke(command) => self.told_to_invoke(command),
+            Local::Retry(seq) => self.told_to_retry(*seq),
+            Local::Fetch => self.fetch(),
+            _ => Ok(Done::quiet(self.alloc)),
+        }
+    }
+}
+
+impl Client {
     // Where a new request goes.
     fn part_for(&self, command: &Command) -> Result<&PartConfig, InvokeError>
         ensures ok { IfOk result (λ part. model.invocation_for self.now.state command.now ≡ Ok part.now) }
@@ -228,25 +259,31 @@ impl Client {
         }
     }
 
-    // ---- messages
-
-    /// A message comes to the client.
-    #[tactic(auto, unfolding(curp_model::specs::Client::on_client))]
-    pub fn on_message(&mut self, message: &Message) -> Result<Done, NoMemory>
-        ensures moves { Moves self.old self.new result (numbered_move self.old.number
-            (model.on_client self.old.number self.old.state message.now.from message.now.body)) }
+    // Invokes a command, and tells a refusal by its number.
+    fn told_to_invoke(&mut self, command: &Command) -> Result<Done, NoMemory>
+        ensures moves { Moves self.old self.new result
+            (numbered_move self.old.number (model.invoke self.old.number self.old.state command.now)) }
+        ensures refused { (model.invoke self.old.number self.old.state command.now).refused ≢ 0 → IsOk result }
     {
-        match &message.body {
-            Body::Reply(reply) => self.on_reply(message.from, reply.get()),
-            Body::Accepted(accepted) => self.on_accepted(message.from, accepted),
-            Body::Worth(worth) => Ok(self.on_worth(message.from, worth.get())),
-            Body::Quick(quick) => self.on_quick(message.from, quick.get()),
-            Body::Probed(probed) => self.on_probed(message.from, probed),
-            Body::Rejected(rejected) => self.on_rejected(&rejected.id),
-            Body::Configuration { config } => self.on_configuration(config),
-            _ => Ok(Done::quiet(self.alloc)),
+        match self.invoke(command) {
+            Ok(done) => Ok(done),
+            Err(error) => told(self.alloc, error.number()),
         }
     }
+
+    // Sends a pending request again, and tells a refusal by its number.
+    fn told_to_retry(&mut self, seq: u32) -> Result<Done, NoMemory>
+        ensures moves { Moves self.old self.new result
+            (numbered_move self.old.number (model.retry self.old.number self.old.state seq)) }
+        ensures refused { (model.retry self.old.number self.old.state seq).refused ≢ 0 → IsOk result }
+    {
+        match self.retry(seq) {
+            Ok(done) => Ok(done),
+            Err(error) => told(self.alloc, error.number()),
+        }
+    }
+
+    // ---- messages
 
     fn on_reply(&mut self, from: NodeId, reply: &Reply) -> Result<Done, NoMemory>
         ensures moves { Moves self.old self.new result (numbered_move self.old.number
@@ -432,4 +469,14 @@ impl Client {
         self.pending.remove(&completed.id);
         Done::completes(self.alloc, completed)
     }
+}
+
+// What is told of an order that wasn't made: the number of its refusal, else out of memory.
+fn told(alloc: Global, refusal: u8) -> Result<Done, NoMemory>
+    ensures { TellsRefusal refusal result }
+{
+    if refusal == 0 {
+        return Err(AllocError);
+    }
+    Ok(Done::refuses(alloc, refusal))
 }

@@ -1,8 +1,10 @@
-//! A client as a data structure: its requests until they complete, and what was delivered for each of them.
+//! A client as a node: its requests until they complete, and what was delivered for each of them.
 //!
-//! `Client::invoke`, `retry`, `fetch` and `on_message`: exact, by `Moves`, over the definition of a client. Each error
-//! but running out of memory comes exactly where the definition refuses by that number, so a call that is refused wants no
-//! memory; after an error nothing has changed. That no pending number is past the last one is a clause.
+//! `Client` is a `Core`: its machine is in `specs/Machine.antt`, and is the definition of a client whole. `invoke`, `retry`
+//! and `fetch` are its orders as calls: exact, by `Moves`, over that definition. Each error but running out of memory comes
+//! exactly where the definition refuses by that number, so a call that is refused wants no memory; after an error nothing
+//! has changed. `new`, as at opening, and what tells of its requests (`last`, `pending`, `least_pending`, `newest`): exact.
+//! That no pending number is past the last one is a clause.
 #![tactic(auto)]
 
 mod client;

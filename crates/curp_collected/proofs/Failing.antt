@@ -17,7 +17,9 @@ use Rattle.curp_model.specs.Manager.{ManagerState}
 use Rattle.curp_model.specs.Recovery.{Fresh, MasterStage}
 use Rattle.curp_model.specs.Witness.{WitnessState, fresh_witness}
 use Rattle.curp_model.specs.World.{opening, opening_client}
-use Rattle.curp_nodes.specs.Machines.{backup_machine, client_machine, manager_machine, master_machine, witness_machine}
+use Rattle.curp_client.specs.Machine.{client_machine}
+use Rattle.curp_config.specs.Machine.{manager_machine}
+use Rattle.curp_nodes.specs.Machines.{backup_machine, master_machine, witness_machine}
 use Rattle.curp_collected.proofs.Counts.{backup_count, client_count, master_count, witness_count}
 use Rattle.curp_collected.specs.Causes.{Fails, FailsSo, IsCause, IsUnread, OneFails, RefusedBy, StopsAt, begun_as, count_there}
 use Rattle.curp_collected.specs.Files.{IsJournalAt}

@@ -9,7 +9,8 @@ use Rattle.curp_msg.specs.declared.script.Header.{Header}
 use Rattle.curp_msg.specs.declared.script.Step.{Step}
 use Rattle.curp_msg.specs.declared.script.Step.TheVariants.{Collect, Deliver, Expire, Fetch, Invoke, Migrate, Nudge, Recover, Replace, Retry, Stop, Sync}
 use Rattle.curp_journal.specs.Journal.{NodeJournal}
-use Rattle.curp_nodes.specs.Machines.{backup_machine, client_machine, master_machine, witness_machine}
+use Rattle.curp_client.specs.Machine.{client_machine}
+use Rattle.curp_nodes.specs.Machines.{backup_machine, master_machine, witness_machine}
 use Rattle.curp_script.specs.Printed.{NamesNode}
 use Rattle.curp_journal.specs.Turns.{Journal}
 use Rattle.curp_law_weave.specs.Run.{StopsEnded}

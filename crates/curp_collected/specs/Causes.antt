@@ -12,7 +12,9 @@ use Rattle.curp_model.specs.Backup.{fresh_backup}
 use Rattle.curp_model.specs.Recovery.{Fresh}
 use Rattle.curp_model.specs.Witness.{fresh_witness}
 use Rattle.curp_model.specs.World.{opening, opening_client}
-use Rattle.curp_nodes.specs.Machines.{backup_machine, client_machine, manager_machine, master_machine, witness_machine}
+use Rattle.curp_client.specs.Machine.{client_machine}
+use Rattle.curp_config.specs.Machine.{manager_machine}
+use Rattle.curp_nodes.specs.Machines.{backup_machine, master_machine, witness_machine}
 use Rattle.curp_durable.specs.Journal.{IsDamaged}
 use Rattle.curp_title.specs.Title.{title_bytes}
 use Rattle.curp_title.specs.declared.title.Title.{Title}

@@ -5,7 +5,9 @@ use Rattle.curp_cmd.specs.declared.node.NodeId.{NodeId}
 use Rattle.curp_msg.specs.declared.script.Header.{Header}
 use Rattle.curp_msg.specs.declared.script.Step.{Step}
 use Rattle.curp_journal.specs.declared.arrived.Arrived.{Arrived}
-use Rattle.curp_nodes.specs.Machines.{backup_machine, client_machine, manager_machine, master_machine, witness_machine}
+use Rattle.curp_client.specs.Machine.{client_machine}
+use Rattle.curp_config.specs.Machine.{manager_machine}
+use Rattle.curp_nodes.specs.Machines.{backup_machine, master_machine, witness_machine}
 use Rattle.curp_journal.specs.Turns.{IsKnown, Journal}
 use Rattle.curp_gather.specs.Journals.{AreOf, IsScriptOf, journals_of}
 use Rattle.curp_gather.specs.declared.journals.Journals.{Journals}

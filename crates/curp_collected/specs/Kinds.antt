@@ -13,7 +13,7 @@ use Rattle.curp_gather.specs.Journals.{IsManagerJournal, NodesAscend}
 use Rattle.curp_anew.specs.Opening.{AllOwn}
 use Rattle.curp_opening.specs.Nodes.{HasNumbers, states}
 use Rattle.curp_model.specs.Manager.{ManagerState}
-use Rattle.curp_nodes.specs.Machines.{manager_machine}
+use Rattle.curp_config.specs.Machine.{manager_machine}
 use Rattle.curp_collected.specs.Files.{HasTitleAt, IsJournalAt}
 use Rattle.curp_collected.specs.declared.files.File.{File}
 use Rattle.curp_collected.specs.Taking.{IsOfFiles, NoneWanted}

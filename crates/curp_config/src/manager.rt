@@ -13,7 +13,7 @@ use curp_changes::messages::{one, says};
 use curp_changes::names::{numbered, put_numbered};
 use curp_changes::{Migration, Next, Shape, Work, opening_config, opening_work};
 use curp_cmd::{Keeper, NodeId};
-use curp_msg::{Body, Config, Done, Local, Message, PartConfig};
+use curp_msg::{Body, Config, Core, Done, Local, Message, PartConfig};
 use std::alloc::{AllocError, Global};
 use std::collections::BTreeSet;
 use std::marker::Model;
@@ -67,7 +67,7 @@ impl Model for Manager {
 
 impl Manager {
     /// The manager before any order. All of its numbers have to fit in 32 bits.
-    pub fn begin(alloc: Global, shape: &Shape) -> Result<Manager, NoMemory>
+    pub fn new(alloc: Global, shape: &Shape) -> Result<Manager, NoMemory>
         requires masters { shape.now.parts < u32.MAX }
         requires keepers { shape.now.parts * shape.now.f < u32.MAX }
         ensures { IfOk result (λ manager. manager ≡ model.opening_manager shape.now) }
@@ -140,13 +140,20 @@ impl Manager {
     {
         self.next.witness
     }
+}
 
-    /// A message comes to the manager.
-    #[tactic(auto, unfolding(curp_model::specs::Manager::on_manager))]
-    pub fn on_message(&mut self, message: &Message) -> Result<Done, NoMemory>
-        ensures moves { Moves self.old self.new result
-            (model.on_manager self.old message.now.from message.now.body) }
-    {
+impl Core for Manager {
+    ghost use Rattle.curp_config.specs.Machine.{manager_machine};
+    ghost use Rattle.curp_config.specs.Refused.{manager_refusals, manager_taken};
+
+    ghost machine = { manager_machine };
+
+    ghost refusals = { manager_refusals };
+
+    ghost messages_taken = { manager_taken };
+
+    #[tactic(auto, unfolding(crate::specs::Machine::manager_machine, curp_model::specs::Manager::on_manager))]
+    fn on_message(&mut self, message: &Message) -> Result<Done, NoMemory> {
         match &message.body {
             Body::Fetch => self.on_fetch(message.from),
             Body::Recovered(recovered) => self.on_recovered(recovered),
@@ -157,12 +164,8 @@ impl Manager {
         }
     }
 
-    /// The manager gets an order. It leaves those alone that aren't its own.
-    #[tactic(auto, unfolding(curp_model::specs::Manager::manager_ordered))]
-    pub fn on_order(&mut self, order: &Local) -> Result<Done, NoMemory>
-        ensures moves { Moves self.old self.new result (model.manager_ordered self.old order.now) }
-        ensures refused { (model.manager_ordered self.old order.now).refused ≢ 0 → IsOk result }
-    {
+    #[tactic(auto, unfolding(crate::specs::Machine::manager_machine, curp_model::specs::Manager::manager_ordered))]
+    fn on_order(&mut self, order: &Local) -> Result<Done, NoMemory> {
         match order {
             Local::Recover {
                 part,
@@ -180,7 +183,9 @@ impl Manager {
             _ => Ok(Done::quiet(self.alloc)),
         }
     }
+}
 
+impl Manager {
     fn told_to_recover(&mut self, part: u32, backup: u32, witness: u32) -> Result<Done, NoMemory>
         ensures moves { Moves self.old self.new result
             (model.manager_ordered self.old (local.Recover part backup witness)) }

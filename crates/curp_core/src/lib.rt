@@ -23,7 +23,8 @@
 //! sets, 4 ways, `fast` and `Protocol::One` where its words name no other.
 //!
 //! `opening` makes all nodes of a header: first the manager, then clients and masters by its `config()`, then
-//! `parts * f` backups and as many witnesses. One by one:
+//! `parts * f` backups and as many witnesses. One by one (`ManagerNode` is `Manager` of `curp_config`, and `ClientNode`
+//! `Client` of `curp_client`):
 //!
 //! - `ManagerNode::new(alloc, &Shape { f, parts, clients })`.
 //! - `ClientNode::new(alloc, number, fast, protocol, config)`: the configuration may be any that the manager adopted; an
@@ -49,6 +50,9 @@
 //! | `Replace` | the manager | a backup or a witness is gone |
 //! | `Nudge` | the manager | what it sent may be lost, as after it was opened again: it sends again all that it waits for |
 //! | `Migrate`, `Expire` | the manager | hashes are to move; a client is gone for good |
+//!
+//! Each order to a client or the manager is a call too, as `invoke` of a `ClientNode` and `recover` of a `ManagerNode`: what
+//! refuses it is an error there (`InvokeError`, `RecoverError`), and no number. A node behind a journal takes orders alone.
 //!
 //! The nodes have no policy of their own. That of `curp live` has its numbers in `policy`, and its code in
 //! `curp_live/src/chores.rt`: a client has at most `PENDING_AT_ONCE` requests pending, and retries all of them in order
@@ -89,10 +93,12 @@
 
 pub use curp_base::{Boxed, Items, NoMemory, Shared};
 pub use curp_changes::Shape;
+pub use curp_client::{InvokeError, RetryError};
 pub use curp_cmd::{
     Answer, Command, Keeper, Key, KeyError, MultiError, NodeId, NodeKind, Request, RequestId,
     Value, ValueError,
 };
+pub use curp_config::{ExpireError, MigrateError, RecoverError, ReplaceError};
 pub use curp_msg::{
     Capture, Completed, Config, Core, Done, Header, Input, Local, Message, PartConfig, Protocol,
 };

@@ -1,7 +1,9 @@
 -- A journal by the machine of its own kind of node is one by what the model does on each input.
 use Rattle.std.proofs.Common.{List}
 use Rattle.curp_msg.specs.Moved.{Node}
-use Rattle.curp_nodes.specs.Machines.{backup_machine, client_machine, manager_machine, master_machine, witness_machine}
+use Rattle.curp_client.specs.Machine.{client_machine}
+use Rattle.curp_config.specs.Machine.{manager_machine}
+use Rattle.curp_nodes.specs.Machines.{backup_machine, master_machine, witness_machine}
 use Rattle.curp_model.specs.Backup.{BackupState, backup_input}
 use Rattle.curp_model.specs.Client.{ClientState, client_input}
 use Rattle.curp_model.specs.Manager.{ManagerState, manager_input}

@@ -24,7 +24,9 @@ use Rattle.curp_law_weave.specs.Run.{IsJournalOf, Legal, RunOf, TakesFirst}
 use Rattle.curp_law_weave.proofs.Gives.{backup_journal, client_journal, manager_journal, master_journal, witness_journal, backup_comes, backup_opens, client_opens, manager_opens, master_comes, master_opens, witness_comes, witness_opens}
 use Rattle.curp_merge.specs.Merging.{AreJournals, Merged, weight_sent}
 use Rattle.curp_merge.proofs.Sums.{weight_of_turns}
-use Rattle.curp_nodes.specs.Machines.{backup_machine, client_machine, manager_machine, master_machine, witness_machine}
+use Rattle.curp_client.specs.Machine.{client_machine}
+use Rattle.curp_config.specs.Machine.{manager_machine}
+use Rattle.curp_nodes.specs.Machines.{backup_machine, master_machine, witness_machine}
 use Rattle.curp_gather.specs.Journals.{AreOf, Begins, IsBackupJournal, IsClientJournal, IsMasterJournal, IsScriptOf, IsWitnessJournal, NodesAscend, journal_of, journals_of}
 use Rattle.curp_gather.specs.Replays.{AreReplayed, IsMadeAnew}
 use Rattle.curp_gather.specs.declared.journals.Journals.{Journals}

@@ -2,7 +2,9 @@
 use Rattle.curp_base.specs.Words.{Each}
 use Rattle.curp_msg.specs.Moved.{Moved}
 use Rattle.curp_msg.specs.declared.machine.Input.{Input}
-use Rattle.curp_nodes.specs.Machines.{backup_machine, client_machine, manager_machine, master_machine, witness_machine}
+use Rattle.curp_client.specs.Machine.{client_machine}
+use Rattle.curp_config.specs.Machine.{manager_machine}
+use Rattle.curp_nodes.specs.Machines.{backup_machine, master_machine, witness_machine}
 use Rattle.curp_journal.specs.Journal.{IsJournal, NodeJournal, Stamped}
 use Rattle.curp_gather.specs.declared.journals.Journals.{Journals}
 

@@ -25,7 +25,7 @@ use Rattle.curp_msg.specs.Moved.{Moved, done_of}
 use Rattle.curp_msg.specs.declared.machine.Done.{Done}
 use Rattle.curp_msg.specs.declared.machine.Input.{Input}
 use Rattle.curp_msg.specs.declared.script.Header.{Header}
-use Rattle.curp_nodes.specs.Machines.{manager_machine}
+use Rattle.curp_config.specs.Machine.{manager_machine}
 
 -- ---- the definition, by the manager's machine
 

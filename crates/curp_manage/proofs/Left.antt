@@ -12,7 +12,7 @@ use Rattle.curp_manage.specs.declared.managing.Crash.{Crash}
 use Rattle.curp_model.specs.Manager.{ManagerState, opening_manager}
 use Rattle.curp_model.specs.World.{shape_of}
 use Rattle.curp_msg.specs.declared.script.Header.{Header}
-use Rattle.curp_nodes.specs.Machines.{manager_machine}
+use Rattle.curp_config.specs.Machine.{manager_machine}
 
 -- where it is there, and the disk doesn't fail
 pub of_memory : (error : OpenError) → IsOfTheMoment error → error ≢ opened.DiskFault → error ≡ opened.NoMemory

@@ -20,7 +20,7 @@ use Rattle.curp_model.specs.Manager.{ManagerState, opening_manager}
 use Rattle.curp_model.specs.World.{shape_of}
 use Rattle.curp_msg.specs.declared.machine.Done.{Done}
 use Rattle.curp_msg.specs.declared.script.Header.{Header}
-use Rattle.curp_nodes.specs.Machines.{manager_machine}
+use Rattle.curp_config.specs.Machine.{manager_machine}
 use Rattle.curp_title.specs.Title.{title_bytes}
 
 -- ---- the journal

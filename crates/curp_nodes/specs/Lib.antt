@@ -1,4 +1,3 @@
 pub mod Machines
-pub mod ManagerRefusals
 pub mod Refusals
 pub mod Stages

@@ -5,7 +5,8 @@ use curp_base::Boxed;
 use curp_client::{Client, InvokeError, RetryError};
 use curp_cmd::{Answer, Command, NodeId, NodeKind};
 use curp_msg::{
-    Accepted, Body, Capture, Completed, Config, Done, Message, Protocol, Reason, Rejected, Worth,
+    Accepted, Body, Capture, Completed, Config, Core, Done, Message, Protocol, Reason, Rejected,
+    Worth,
 };
 use std::alloc::Global;
 use std::process::Abort;
@@ -42,7 +43,7 @@ fn one_part(rt: &impl Abort, alloc: Global, serial: u32, hi: u64) -> Config {
 
 fn begin(rt: &impl Abort, alloc: Global, fast: bool) -> Client {
     let config = one_part(rt, alloc, 1, u64::MAX);
-    Client::begin(alloc, 1, fast, Protocol::One, config)
+    Client::new(alloc, 1, fast, Protocol::One, config)
 }
 
 fn give(rt: &impl Abort, client: &mut Client, from: NodeId, body: Body) -> Done {

@@ -5,7 +5,7 @@ use curp_base::{AscendingPairs, Shared};
 use curp_changes::Shape;
 use curp_cmd::{Keeper, NodeId, NodeKind, Package, TablePart};
 use curp_config::{ExpireError, Manager, MigrateError, RecoverError, ReplaceError};
-use curp_msg::{Body, Config, Done, Message, Parcel, Prepare, Recover, Recovered};
+use curp_msg::{Body, Config, Core, Done, Message, Parcel, Prepare, Recover, Recovered};
 use std::alloc::Global;
 use std::process::Abort;
 
@@ -132,7 +132,7 @@ fn try_message(
 fn begin(rt: &impl Abort, alloc: Global, f: u32, parts: u32, clients: u32) -> Manager {
     assert!(rt; f <= 5 && parts <= 16);
     let shape = Shape { f, parts, clients };
-    must(rt, Manager::begin(alloc, &shape))
+    must(rt, Manager::new(alloc, &shape))
 }
 
 fn package(rt: &impl Abort, alloc: Global, hi: u64) -> Shared<Package> {

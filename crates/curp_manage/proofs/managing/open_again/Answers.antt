@@ -7,7 +7,7 @@ use Rattle.curp_manage.proofs.Headers.{title_is}
 use Rattle.curp_manage.proofs.Left.{of_memory}
 use Rattle.curp_model.specs.Manager.{ManagerState, opening_manager}
 use Rattle.curp_model.specs.World.{shape_of}
-use Rattle.curp_nodes.specs.Machines.{manager_machine}
+use Rattle.curp_config.specs.Machine.{manager_machine}
 use Rattle.curp_manage.proofs.managing.open_again.Goals as goal
 
 -- the journal is there, so nothing but memory can be wanting

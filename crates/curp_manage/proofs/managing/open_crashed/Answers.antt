@@ -8,7 +8,7 @@ use Rattle.curp_manage.proofs.Left.{of_memory}
 use Rattle.curp_manage.specs.Kept.{title_for}
 use Rattle.curp_model.specs.Manager.{opening_manager}
 use Rattle.curp_model.specs.World.{shape_of}
-use Rattle.curp_nodes.specs.Machines.{manager_machine}
+use Rattle.curp_config.specs.Machine.{manager_machine}
 use Rattle.curp_manage.proofs.managing.open_crashed.Goals as goal
 
 pub open_from-requires : goal.open_from-requires

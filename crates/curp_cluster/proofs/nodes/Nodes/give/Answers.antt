@@ -1,7 +1,8 @@
 use Rattle.std.proofs.Common.{◌≢◌, ◌≤◌, ◌-◌, List, length, refl, ap, sym, ◌∙◌, subst}
 use Rattle.std.specs.Vec.{with_items}
 use Rattle.curp_cmd.specs.declared.node.NodeKind.TheVariants.{Client, Master, Backup, Witness, Manager}
-use Rattle.curp_nodes.specs.Machines.{backup_machine, client_machine, master_machine, witness_machine}
+use Rattle.curp_client.specs.Machine.{client_machine}
+use Rattle.curp_nodes.specs.Machines.{backup_machine, master_machine, witness_machine}
 use Rattle.curp_model.specs.Backup.{BackupState}
 use Rattle.curp_model.specs.Client.{ClientState}
 use Rattle.curp_model.specs.Recovery.{MasterStage}

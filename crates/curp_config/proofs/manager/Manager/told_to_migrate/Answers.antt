@@ -1,7 +1,8 @@
 use Rattle.std.proofs.Common.{sym, ◌∙◌, rules}
 use Rattle.curp_model.specs.Manager.{manager_ordered}
 use Rattle.curp_msg.specs.declared.machine.Local.TheVariants as local
-use Rattle.curp_config.proofs.Told.{order_refuses, tells_moves}
+use Rattle.curp_config.specs.Refused.{order_refuses}
+use Rattle.curp_config.proofs.Told.{tells_moves}
 use Rattle.curp_config.proofs.manager.Manager.told_to_migrate.Goals as goal
 use Rattle.curp_config.proofs.manager.Manager.told_to_migrate.Goals.{in-Ok, in-Err}
 

@@ -11,7 +11,7 @@ use Rattle.curp_manage.proofs.Room.{encoded, has_room}
 use Rattle.curp_model.specs.Manager.{opening_manager}
 use Rattle.curp_model.specs.World.{shape_of}
 use Rattle.curp_msg.specs.Limits.{step_limit}
-use Rattle.curp_nodes.specs.Machines.{manager_machine}
+use Rattle.curp_config.specs.Machine.{manager_machine}
 use Rattle.curp_manage.proofs.managing.Managing.give.Goals as goal
 
 -- ---- the manager answers

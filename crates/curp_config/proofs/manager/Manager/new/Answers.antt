@@ -1,6 +1,6 @@
 use Rattle.std.proofs.Common.{sym}
 use Rattle.curp_config.proofs.Entries.{opening_numbered}
-use Rattle.curp_config.proofs.manager.Manager.begin.Goals as goal
+use Rattle.curp_config.proofs.manager.Manager.new.Goals as goal
 
 pub invariant_of-result : goal.invariant_of-result
 invariant_of-result c =

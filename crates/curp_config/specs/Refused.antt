@@ -18,9 +18,9 @@ use Rattle.curp_msg.specs.declared.machine.Local.{Local}
 use Rattle.curp_msg.specs.declared.machine.Local.TheVariants as local
 use Rattle.curp_msg.specs.declared.message.Message.{Message}
 use Rattle.curp_model.specs.Manager as model
-use Rattle.curp_model.specs.Manager.{Attempted, ManagerState, Migration, NewLists, counter_ends, last_number, unless_numbers_end}
+use Rattle.curp_model.specs.Manager.{Attempted, ManagerState, Migration, NewLists}
 use Rattle.curp_model.specs.Ranges.{Range, range_of}
-use Rattle.curp_nodes.specs.Machines.{manager_machine}
+use Rattle.curp_config.specs.Machine.{manager_machine}
 
 -- ---- orders
 
@@ -115,11 +115,15 @@ module _ (g : ManagerState) where
   told_refuses (local.Expire client) = expire_refuses client
   told_refuses _ = not_refused g (quiet g) refl
 
+pub order_refuses : (g : ManagerState) (order : Local) → Refuses g (model.manager_ordered g order)
+unfolding model.manager_ordered
+order_refuses g order =
+    cond_both _ _ _ (Refuses g) (λ ends. not_refused g (quiet g) refl) (λ goes. told_refuses g order)
+
 -- how the manager refuses an order
 pub manager_refusals : (g : ManagerState) (order : Local) → Refuses g (manager_machine g (input.Local order))
-unfolding manager_machine model.manager_ordered
-manager_refusals g order =
-    cond_both _ _ _ (Refuses g) (λ ends. not_refused g (quiet g) refl) (λ goes. told_refuses g order)
+unfolding manager_machine
+manager_refusals g order = order_refuses g order
 
 -- ---- messages
 
