@@ -1,6 +1,14 @@
--- What a crash leaves while a record is written behind a commit byte and the commit byte is opened.
-use Rattle.std.specs.Prelude.{◌≡◌, ◌⊎◌, ℕ, ◌+◌, List, ◌∷◌, ◌++◌, take, drop}
-use Rattle.curp_disk.specs.Disk.{LeavesOnly, Narrows}
+-- What a crash leaves while bytes are written, and while a record is written behind a commit byte and the commit byte is opened.
+use Rattle.std.specs.Prelude.{◌≡◌, ◌⊎◌, ℕ, ◌+◌, ◌≤◌, List, ◌∷◌, ◌++◌, length, take, drop}
+use Rattle.curp_disk.specs.Disk.{LeavesOnly, Narrows, Torn}
+
+-- what a crash left before, torn in so many bytes from a place on
+abbrev pub TornFrom : (at n : ℕ) → (List ℕ → Type 0) → List ℕ → Type 0
+TornFrom at n outcomes c = (d : List ℕ) × outcomes d × Torn at n d c
+
+-- a crash leaves no more bytes than so many
+abbrev pub LeavesAtMost : ℕ → (List ℕ → Type 0) → Type 0
+LeavesAtMost most outcomes = (c : List ℕ) → outcomes c → length c ≤ most
 
 -- all up to the commit byte stands as before, whatever stands behind it
 abbrev pub IsShut : List ℕ → ℕ → List ℕ → Type 0

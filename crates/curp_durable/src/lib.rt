@@ -4,7 +4,9 @@
 //! byte; what stands behind the first commit byte that isn't open says nothing. A record is written behind its shut commit byte and
 //! synced, then the commit byte is opened by a write of its own and synced.
 //!
-//! - `format` writes an empty journal. `Durable::open` reads one and gives its inputs to a fresh node: `NotFormatted` and
+//! - `format` writes an empty journal, on a disk that has no more bytes than one (`empty`); any other is left as it is
+//!   (`spares`, `refused`). At any moment in the call no other bytes are torn (`any_moment`), so it may be called again
+//!   after a crash or an error (`again`). `Durable::open` reads one and gives its inputs to a fresh node: `NotFormatted` and
 //!   `Damaged` come exactly where the bytes are so, and never where they are a journal (`journal`). `read_inputs` gives
 //!   the inputs alone, and `inputs_in` those of bytes that were read before. `Durable::open_from` reads and gives only
 //!   what stands behind a `Checkpoint`, and answers as `open` does of a journal that led to that (`LedTo`).

@@ -1,8 +1,8 @@
 //! Records behind commit bytes.
 ghost use Rattle.std.specs.Prelude.{◌≡◌, ◌≢◌, ◌+◌, ◌^◌, ◌<◌, ◌≤◌, [], ◌∷◌, length, true};
-ghost use Rattle.curp_disk.specs.Disk.{LeavesOnly, Only, Torn, over};
+ghost use Rattle.curp_disk.specs.Disk.{LeavesOnly, Only, over};
 ghost use Rattle.curp_io.specs.Streams.{Rose};
-ghost use Rattle.curp_durable.specs.Appending.{ShutOrStaged};
+ghost use Rattle.curp_durable.specs.Appending.{ShutOrStaged, TornFrom};
 ghost use Rattle.curp_durable.specs.Running.{RunsCalls, appending, keeping};
 
 use curp_disk::{Did, Disk};
@@ -18,11 +18,10 @@ pub(crate) enum Kept {
 /// Writes bytes and syncs.
 pub(crate) fn keep<D: Disk>(disk: &mut D, at: u64, bytes: &[u8]) -> Kept
     requires at { D.tells ≡ true → at ≤ length (D.seen disk.old) }
-    requires durable { D.tells ≡ true → Only (D.seen disk.old) (D.may_leave disk.old) }
     ensures seen { D.tells ≡ true → result ≡ Kept.Kept → D.seen disk.new ≡ over (D.seen disk.old) at bytes.now }
     ensures durable { D.tells ≡ true → result ≡ Kept.Kept → Only (D.seen disk.new) (D.may_leave disk.new) }
-    ensures any_moment { D.tells ≡ true → LeavesOnly D.moment D.left_since disk.old disk.new
-        (Torn at (length bytes.now) (D.seen disk.old)) }
+    ensures any_moment { LeavesOnly D.moment D.left_since disk.old disk.new
+        (TornFrom at (length bytes.now) (D.may_leave disk.old)) }
     ensures ran { RunsCalls D.wrote D.synced (keeping at bytes.now) disk.old result disk.new }
     ensures sound { D.sound disk.old → (result ≢ Kept.Failed) × D.sound disk.new }
     ensures cause { result ≡ Kept.Failed → Rose (D.faults disk.old) (D.faults disk.new) }

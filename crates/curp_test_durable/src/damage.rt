@@ -12,7 +12,7 @@ use std::alloc::Global;
 use std::process::Abort;
 
 /// Three batches: an expiry; a fence for a backup, and a record for a witness; a fetch by a client, and a nudge.
-static JOURNAL: [u8; 191] = [
+pub(crate) static JOURNAL: [u8; 191] = [
     b'n', b'o', b'd', b'e', //
     1, 0, 0, 0, 22, //
     1, 5, 0, 0, 0, 1, 0, 0, 0, 0, 0, 0, 0, 0, //
@@ -98,7 +98,7 @@ fn is_read(disk: &mut MemoryDisk, buf: &mut [u8], count: usize) -> bool {
 }
 
 /// Whether the disk has just these bytes.
-fn has_bytes(mut disk: MemoryDisk, bytes: &[u8]) -> bool {
+pub(crate) fn has_bytes(mut disk: MemoryDisk, bytes: &[u8]) -> bool {
     let mut buf = [0; 200];
     let is_read = is_read(&mut disk, &mut buf, bytes.len());
     drop(disk);
@@ -106,7 +106,7 @@ fn has_bytes(mut disk: MemoryDisk, bytes: &[u8]) -> bool {
 }
 
 /// The disk of a journal of the three batches.
-fn written(rt: &impl Abort, alloc: Global) -> MemoryDisk {
+pub(crate) fn written(rt: &impl Abort, alloc: Global) -> MemoryDisk {
     let mut disk = in_memory(rt, alloc);
     begin(rt, alloc, &mut disk);
     let mut durable = opened(alloc, disk, backup(alloc)).expect(rt, "no journal");

@@ -13,6 +13,8 @@ mod damage;
 #[cfg(test)]
 mod faults;
 #[cfg(test)]
+mod formatting;
+#[cfg(test)]
 mod heavy;
 #[cfg(test)]
 mod manager;
