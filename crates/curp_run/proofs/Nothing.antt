@@ -38,8 +38,7 @@ nothing_done (Some (Play History)) took wrote same = record {
 nothing_done (Some (Make plan form)) took wrote same = record {
   of_making = inr (inr refl);
   complete = λ f. inr refl;
-  text = λ t c. absurd cc;
-  prefix = λ t. nothing_held _ _ _ same;
+  text = record { whole = λ k c. absurd cc; prefix = λ k. nothing_held _ _ _ same };
   reads = λ c f. absurd cc;
 }
 nothing_done (Some (Live plan)) took wrote same = record {

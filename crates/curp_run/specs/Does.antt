@@ -2,7 +2,6 @@
 use Rattle.std.specs.Prelude.{◌≡◌, ◌≢◌, ◌⊎◌, ◌↔◌, ℕ, ◌-◌, ◌++◌, true, false, List, [], length, map, Option, Some, None}
 use Rattle.curp_base.specs.Words.{IsPrefix}
 use Rattle.curp_io.specs.Streaming.{TellsFault, Took, Wrote}
-use Rattle.curp_io.specs.Streams.{HoldsPart}
 use Rattle.curp_gen.specs.Texts.{made_script, made_text}
 use Rattle.curp_check.specs.Claim.{IsClaimOfOrder, claim_in}
 use Rattle.curp_check.specs.declared.verdict.Clause.{Clause}
@@ -77,8 +76,7 @@ pub record MakesScript (plan : MakePlan) (form : Output) (wrote : Wrote) (s : St
   -- without a fault it ends with status 0, or out of memory
   pub complete : EndsMade s wrote.faults_before wrote.faults_after
   -- the text of the plan; where it is cut short, a prefix of the text
-  pub text : wrote.tells ≡ true → s ≡ status.Ok → wrote.after ≡ wrote.before ++ made_text plan form
-  pub prefix : wrote.tells ≡ true → HoldsPart wrote.before wrote.after (made_text plan form)
+  pub text : WritesText (made_text plan form) wrote s
   -- a made script is read whole, as the plan's
   pub reads : s ≡ status.Ok → form ≡ output.Script → script_in (made_text plan output.Script) ≡ made_script plan
 

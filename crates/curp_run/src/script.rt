@@ -1,9 +1,10 @@
-ghost use Rattle.std.specs.Prelude.{◌≡◌, ◌≢◌, ◌≤◌, ◌+◌, ◌++◌, true, Err, OnOk, IfErr};
-ghost use Rattle.curp_io.specs.Streams.{HoldsPart, Rose, SameCount};
+ghost use Rattle.std.specs.Prelude.{◌≡◌, ◌≤◌, ◌+◌, OnOk};
+ghost use Rattle.curp_io.specs.Streaming.{TellsFault, wrote_of};
 ghost use Rattle.curp_gen.specs.Texts.{made_script, made_text, script_text, summary_text};
 ghost use Rattle.curp_script.specs.Texts.{line_text, lines_text};
 ghost use Rattle.curp_gen.specs.Making.{after, begun, steps_from, summary_of};
-ghost use Rattle.curp_runner.specs.Reading.{IsOfWriting, script_in};
+ghost use Rattle.curp_runner.specs.Reading.{script_in};
+ghost use Rattle.curp_runner.specs.Writing.{PassesOn, PutsText, WritesText};
 ghost use Rattle.curp_run.specs.Run.{ArePrintable};
 ghost use Rattle.curp_show.specs.Show.{EndsMade, IsOfMaking};
 ghost use Rattle.curp_words.specs.Plan.{IsPlan};
@@ -21,12 +22,10 @@ use std::alloc::Global;
 /// The script is written line by line, as its steps are made.
 pub fn make_script<K: Sink>(alloc: Global, plan: &MakePlan, output: Output, sink: &mut K) -> Status
     requires { IsPlan plan.now }
-    // It writes what the plan gives and passes it on; where it is cut short, it writes a prefix of it.
-    ensures wrote { K.tells sink.old ≡ true → result ≡ Status.Ok
-        → K.held sink.new ≡ K.held sink.old ++ made_text plan.now output }
-    ensures prefix { K.tells sink.old ≡ true
-        → HoldsPart (K.held sink.old) (K.held sink.new) (made_text plan.now output) }
-    ensures flushed { result ≡ Status.Ok → K.flushed sink.new ≡ true }
+    // It writes what the plan gives, and passes it on.
+    ensures wrote { WritesText (made_text plan.now output)
+        (wrote_of K.tells K.held K.flushed K.faults sink.old sink.new) result }
+    ensures passes_on { PassesOn (wrote_of K.tells K.held K.flushed K.faults sink.old sink.new) result }
     // A made script is read to its end, as the plan's header and steps: none of its lines is refused.
     ensures reads { result ≡ Status.Ok → output ≡ Output.Script
         → script_in (made_text plan.now output) ≡ made_script plan.now }
@@ -34,8 +33,7 @@ pub fn make_script<K: Sink>(alloc: Global, plan: &MakePlan, output: Output, sink
     // A write fault comes exactly where the count of faults rose; running out of memory is the one other failure.
     ensures of_making { IsOfMaking result }
     ensures complete { EndsMade result (K.faults sink.old) (K.faults sink.new) }
-    ensures write_fault { result ≡ Status.WriteFault → Rose (K.faults sink.old) (K.faults sink.new) }
-    ensures no_write_fault { result ≢ Status.WriteFault → SameCount (K.faults sink.old) (K.faults sink.new) }
+    ensures write_fault { TellsFault (result ≡ Status.WriteFault) (K.faults sink.old) (K.faults sink.new) }
 {
     let made = write_made(alloc, plan, output, sink);
     close(sink, made)
@@ -49,16 +47,10 @@ fn write_made<K: Sink>(
     sink: &mut K,
 ) -> Result<(), Status>
     requires { IsPlan plan.now }
-    ensures wrote { K.tells sink.old ≡ true
-        → OnOk result (K.held sink.new ≡ K.held sink.old ++ made_text plan.now output) }
-    ensures prefix { K.tells sink.old ≡ true
-        → HoldsPart (K.held sink.old) (K.held sink.new) (made_text plan.now output) }
+    ensures puts { PutsText (made_text plan.now output)
+        (wrote_of K.tells K.held K.flushed K.faults sink.old sink.new) result }
     ensures reads { OnOk result (output ≡ Output.Script
         → script_in (made_text plan.now output) ≡ made_script plan.now) }
-    ensures writing { IfErr result IsOfWriting }
-    ensures tells { K.tells sink.old ≡ true → K.tells sink.new ≡ true }
-    ensures fault { result ≡ Err Status.WriteFault → Rose (K.faults sink.old) (K.faults sink.new) }
-    ensures no_fault { result ≢ Err Status.WriteFault → SameCount (K.faults sink.old) (K.faults sink.new) }
 {
     match output {
         Output::Script => write_script(alloc, plan, sink),
@@ -69,14 +61,9 @@ fn write_made<K: Sink>(
 // Writes the script of a plan.
 fn write_script<K: Sink>(alloc: Global, plan: &MakePlan, sink: &mut K) -> Result<(), Status>
     requires { IsPlan plan.now }
-    ensures wrote { K.tells sink.old ≡ true
-        → OnOk result (K.held sink.new ≡ K.held sink.old ++ script_text plan.now) }
-    ensures prefix { K.tells sink.old ≡ true → HoldsPart (K.held sink.old) (K.held sink.new) (script_text plan.now) }
+    ensures puts { PutsText (script_text plan.now)
+        (wrote_of K.tells K.held K.flushed K.faults sink.old sink.new) result }
     ensures reads { OnOk result (script_in (script_text plan.now) ≡ made_script plan.now) }
-    ensures writing { IfErr result IsOfWriting }
-    ensures tells { K.tells sink.old ≡ true → K.tells sink.new ≡ true }
-    ensures fault { result ≡ Err Status.WriteFault → Rose (K.faults sink.old) (K.faults sink.new) }
-    ensures no_fault { result ≢ Err Status.WriteFault → SameCount (K.faults sink.old) (K.faults sink.new) }
 {
     let mut maker = Maker::new(alloc, plan)?;
     let written = write_begun(alloc, plan, &mut maker, sink);
@@ -93,14 +80,9 @@ fn write_begun<K: Sink>(
 ) -> Result<(), Status>
     requires begun { maker.old ≡ begun plan.now }
     requires in_range { IsPlan plan.now }
-    ensures wrote { K.tells sink.old ≡ true
-        → OnOk result (K.held sink.new ≡ K.held sink.old ++ script_text plan.now) }
-    ensures prefix { K.tells sink.old ≡ true → HoldsPart (K.held sink.old) (K.held sink.new) (script_text plan.now) }
+    ensures puts { PutsText (script_text plan.now)
+        (wrote_of K.tells K.held K.flushed K.faults sink.old sink.new) result }
     ensures reads { OnOk result (script_in (script_text plan.now) ≡ made_script plan.now) }
-    ensures writing { IfErr result IsOfWriting }
-    ensures tells { K.tells sink.old ≡ true → K.tells sink.new ≡ true }
-    ensures fault { result ≡ Err Status.WriteFault → Rose (K.faults sink.old) (K.faults sink.new) }
-    ensures no_fault { result ≢ Err Status.WriteFault → SameCount (K.faults sink.old) (K.faults sink.new) }
 {
     printed_scripts_are_read();
     let header = print_header(alloc, &maker.header())?;
@@ -116,15 +98,9 @@ fn write_steps<K: Sink>(
     sink: &mut K,
 ) -> Result<(), Status>
     requires { maker.old.made + count ≤ maker.old.plan.steps }
-    ensures wrote { K.tells sink.old ≡ true
-        → OnOk result (K.held sink.new ≡ K.held sink.old ++ lines_text (steps_from count maker.old)) }
-    ensures prefix { K.tells sink.old ≡ true
-        → HoldsPart (K.held sink.old) (K.held sink.new) (lines_text (steps_from count maker.old)) }
+    ensures puts { PutsText (lines_text (steps_from count maker.old))
+        (wrote_of K.tells K.held K.flushed K.faults sink.old sink.new) result }
     ensures printable { OnOk result (ArePrintable (steps_from count maker.old)) }
-    ensures writing { IfErr result IsOfWriting }
-    ensures tells { K.tells sink.old ≡ true → K.tells sink.new ≡ true }
-    ensures fault { result ≡ Err Status.WriteFault → Rose (K.faults sink.old) (K.faults sink.new) }
-    ensures no_fault { result ≢ Err Status.WriteFault → SameCount (K.faults sink.old) (K.faults sink.new) }
 {
     for _ in 0..count {
         let step = maker.next_step()?;
@@ -137,12 +113,7 @@ fn write_steps<K: Sink>(
 
 // Writes a line, with a line feed.
 fn write_line<K: Sink>(mut line: Vec<u8>, sink: &mut K) -> Result<(), Status>
-    ensures wrote { K.tells sink.old ≡ true → OnOk result (K.held sink.new ≡ K.held sink.old ++ line_text line.items) }
-    ensures prefix { K.tells sink.old ≡ true → HoldsPart (K.held sink.old) (K.held sink.new) (line_text line.items) }
-    ensures writing { IfErr result IsOfWriting }
-    ensures tells { K.tells sink.old ≡ true → K.tells sink.new ≡ true }
-    ensures fault { result ≡ Err Status.WriteFault → Rose (K.faults sink.old) (K.faults sink.new) }
-    ensures no_fault { result ≢ Err Status.WriteFault → SameCount (K.faults sink.old) (K.faults sink.new) }
+    ensures { PutsText (line_text line.items) (wrote_of K.tells K.held K.flushed K.faults sink.old sink.new) result }
 {
     line.reserve(1)?;
     line.push_reserved(b'\n');
@@ -152,14 +123,8 @@ fn write_line<K: Sink>(mut line: Vec<u8>, sink: &mut K) -> Result<(), Status>
 // Makes the script of a plan, and writes what happened in it.
 fn write_summary<K: Sink>(alloc: Global, plan: &MakePlan, sink: &mut K) -> Result<(), Status>
     requires { IsPlan plan.now }
-    ensures wrote { K.tells sink.old ≡ true → OnOk result (K.held sink.new
-        ≡ K.held sink.old ++ summary_text (summary_of (after plan.now.steps (begun plan.now)))) }
-    ensures prefix { K.tells sink.old ≡ true → HoldsPart (K.held sink.old) (K.held sink.new)
-        (summary_text (summary_of (after plan.now.steps (begun plan.now)))) }
-    ensures tells { K.tells sink.old ≡ true → K.tells sink.new ≡ true }
-    ensures writing { IfErr result IsOfWriting }
-    ensures fault { result ≡ Err Status.WriteFault → Rose (K.faults sink.old) (K.faults sink.new) }
-    ensures no_fault { result ≢ Err Status.WriteFault → SameCount (K.faults sink.old) (K.faults sink.new) }
+    ensures { PutsText (summary_text (summary_of (after plan.now.steps (begun plan.now))))
+        (wrote_of K.tells K.held K.flushed K.faults sink.old sink.new) result }
 {
     let mut maker = Maker::new(alloc, plan)?;
     let written = write_numbers(alloc, plan.steps, &mut maker, sink);
@@ -175,14 +140,8 @@ fn write_numbers<K: Sink>(
     sink: &mut K,
 ) -> Result<(), Status>
     requires { maker.old.made + count ≤ maker.old.plan.steps }
-    ensures wrote { K.tells sink.old ≡ true → OnOk result (K.held sink.new
-        ≡ K.held sink.old ++ summary_text (summary_of (after count maker.old))) }
-    ensures prefix { K.tells sink.old ≡ true → HoldsPart (K.held sink.old) (K.held sink.new)
-        (summary_text (summary_of (after count maker.old))) }
-    ensures tells { K.tells sink.old ≡ true → K.tells sink.new ≡ true }
-    ensures writing { IfErr result IsOfWriting }
-    ensures fault { result ≡ Err Status.WriteFault → Rose (K.faults sink.old) (K.faults sink.new) }
-    ensures no_fault { result ≢ Err Status.WriteFault → SameCount (K.faults sink.old) (K.faults sink.new) }
+    ensures { PutsText (summary_text (summary_of (after count maker.old)))
+        (wrote_of K.tells K.held K.flushed K.faults sink.old sink.new) result }
 {
     for _ in 0..count {
         maker.next_step()?;

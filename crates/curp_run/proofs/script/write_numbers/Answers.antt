@@ -1,9 +1,7 @@
-use Rattle.std.proofs.Common.{rules, ◌≡◌, ◌+◌, ◌-◌, ◌++◌, ◌∙◌, OnOk, subst, sym, ap}
+use Rattle.std.proofs.Common.{rules, ◌+◌, ◌-◌, ◌∙◌, refl, sym, ap}
 use Rattle.curp_gen.specs.Making.{after, summary_of}
 use Rattle.curp_gen.specs.Texts.{summary_text}
-use Rattle.curp_io.specs.Streams.{HoldsPart}
-use Rattle.curp_run.proofs.Ends.{of_memory}
-use Rattle.curp_runner.proofs.Pieces.{nothing}
+use Rattle.curp_run.proofs.Puts.{none_put, put_as}
 use Rattle.curp_run.proofs.Steps.{after_more, counted_more, no_more}
 use Rattle.curp_run.proofs.script.write_numbers.Goals as goal
 
@@ -15,35 +13,22 @@ loop-preserved g c = record {
       ∙ (sym (after_more c.loop.maker c.loop.counter c.args.count c.loop-test.true) ∙ c.loop.invariant.leads);
 }
 
-pub returns-clause-wrote : goal.returns-clause-wrote
-returns-clause-wrote g c = λ tells.
+pub returns : goal.returns
+returns g c =
     let made = sym (no_more c.loop.maker c.loop.counter c.args.count (search rules)) ∙ c.loop.invariant.leads in
     let text = c.as_bytes.ensures.value ∙ (c.in_ok-text.ensures.ok ∙ ap summary_text (c.in_ok-summary.ensures ∙ ap summary_of made)) in
-    subst (λ t. OnOk c.write.result (g.K.Sink.held c.write.new.sink ≡ g.K.Sink.held c.args.sink.now ++ t)) text (c.write.ensures.whole tells)
+    put_as _ _ _ _ text c.write.ensures
 
-pub returns-clause-prefix : goal.returns-clause-prefix
-returns-clause-prefix g c = λ tells.
-    let made = sym (no_more c.loop.maker c.loop.counter c.args.count (search rules)) ∙ c.loop.invariant.leads in
-    let text = c.as_bytes.ensures.value ∙ (c.in_ok-text.ensures.ok ∙ ap summary_text (c.in_ok-summary.ensures ∙ ap summary_of made)) in
-    subst (λ t. HoldsPart (g.K.Sink.held c.args.sink.now) (g.K.Sink.held c.write.new.sink) t) text (c.write.ensures.prefix tells)
+pub returns-in_err-next_step : goal.returns-in_err-next_step
+returns-in_err-next_step g c =
+    none_put (summary_text (summary_of (after c.args.count c.args.maker.now))) _ c.from_residual.result c.from_residual.ensures.1 refl (λ told. told) refl
 
-pub returns-in_err-next_step-clause-prefix : goal.returns-in_err-next_step-clause-prefix
-returns-in_err-next_step-clause-prefix g c = λ tells.
-    nothing (g.K.Sink.held c.args.sink.now) (summary_text (summary_of (after c.args.count c.args.maker.now)))
+pub returns-in_err-summary : goal.returns-in_err-summary
+returns-in_err-summary g c =
+    none_put (summary_text (summary_of (after c.args.count c.args.maker.now))) _ c.from_residual-in_err-summary.result
+    c.from_residual-in_err-summary.ensures.1 refl (λ told. told) refl
 
-pub returns-in_err-next_step-clause-writing : goal.returns-in_err-next_step-clause-writing
-returns-in_err-next_step-clause-writing g c = of_memory c.from_residual.result c.from_residual.ensures.1
-
-pub returns-in_err-summary-clause-prefix : goal.returns-in_err-summary-clause-prefix
-returns-in_err-summary-clause-prefix g c = λ tells.
-    nothing (g.K.Sink.held c.args.sink.now) (summary_text (summary_of (after c.args.count c.args.maker.now)))
-
-pub returns-in_err-summary-clause-writing : goal.returns-in_err-summary-clause-writing
-returns-in_err-summary-clause-writing g c = of_memory c.from_residual-in_err-summary.result c.from_residual-in_err-summary.ensures.1
-
-pub returns-in_err-text-clause-prefix : goal.returns-in_err-text-clause-prefix
-returns-in_err-text-clause-prefix g c = λ tells.
-    nothing (g.K.Sink.held c.args.sink.now) (summary_text (summary_of (after c.args.count c.args.maker.now)))
-
-pub returns-in_err-text-clause-writing : goal.returns-in_err-text-clause-writing
-returns-in_err-text-clause-writing g c = of_memory c.from_residual-in_err-text.result c.from_residual-in_err-text.ensures.1
+pub returns-in_err-text : goal.returns-in_err-text
+returns-in_err-text g c =
+    none_put (summary_text (summary_of (after c.args.count c.args.maker.now))) _ c.from_residual-in_err-text.result
+    c.from_residual-in_err-text.ensures.1 refl (λ told. told) refl
