@@ -8,7 +8,8 @@
 //!   gives the inputs to a node anew, and answers the same journal begun with that node; it answers nothing just where
 //!   the node does otherwise by one of them.
 //! - `Running` is a `Kept` that hasn't stopped. `make` tells a `Observer` of a step before it is made, makes it as `step`
-//!   does, and gives what it sent, with names.
+//!   does, and gives what it sent, with names, or by which number it was refused: as `step` says, by the journal before it
+//!   alone.
 //! - `Chores` say what a node is ordered by its own threads, by what kind of input it took (`Took`) and what it completed.
 //! - `Framed` is a message with its name on its way between nodes, seen as that. A message that is light crosses as the
 //!   frame that `curp_wire` writes of it, and is decoded by who takes it; another crosses as it is. Its type keeps that.
