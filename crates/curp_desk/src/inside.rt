@@ -1,6 +1,6 @@
-ghost use Rattle.std.specs.Prelude.{◌≡◌, ◌⊎◌, ◌+◌, ◌++◌, [], ◌∷◌, false, true, None, length, map, IfOk, IfSome, OnErr, OnOk, MatchOption, option_map};
+ghost use Rattle.std.specs.Prelude.{◌≡◌, ◌⊎◌, ◌↔◌, ◌+◌, ◌++◌, [], ◌∷◌, false, true, None, length, map, IfOk, IfSome, IsErr, OnErr, OnOk, MatchOption, option_map};
 ghost use Rattle.curp_journal.specs.Journal.{NodeJournal};
-ghost use Rattle.curp_seat.specs.Making.{item_of, with_item};
+ghost use Rattle.curp_seat.specs.Making.{IsRefused, item_of, with_item};
 ghost use Rattle.curp_desk.specs.Outbox.{counted, out_of, step_by};
 
 use crate::MadeStep;
@@ -89,8 +89,8 @@ impl<N: Core> Inside<N> {
         }
     }
 
-    /// Gives the node an input, and puts out what it sends. None where the node refused it. After running out of memory no more
-    /// steps are made.
+    /// Gives the node an input, and puts out what it sends. None where the node refused it, or no stamp is left. After running out
+    /// of memory no more steps are made.
     pub(crate) fn make<G: Observer>(
         &mut self,
         observer: &G,
@@ -99,8 +99,13 @@ impl<N: Core> Inside<N> {
         ensures added { IfOk result (λ made. IfSome made (λ _. self.new.log ≡ with_item N.machine self.old.log arrived)) }
         ensures step { IfOk result (λ made. IfSome made (λ step.
             step ≡ step_by arrived (item_of N.machine self.old.log arrived))) }
+        ensures cause { IfOk result (λ made. made ≡ None ↔ IsRefused N.machine self.old.log arrived) }
         ensures refused { IfOk result (λ made. made ≡ None → self.new ≡ self.old) }
         ensures err { OnErr result ((self.new.log ≡ self.old.log) ⊎ (self.new.log ≡ with_item N.machine self.old.log arrived)) }
+        ensures falls_short { OnErr result (self.new.short ≡ true) }
+        ensures stays_short { self.old.short ≡ true → IsErr result }
+        ensures number { self.new.number ≡ self.old.number }
+        ensures ended { self.new.ended ≡ self.old.ended }
         ensures handed { self.new.handed ≡ self.old.handed }
         ensures begun { self.new.begun ≡ self.old.begun }
     {
