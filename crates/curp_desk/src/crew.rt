@@ -187,10 +187,10 @@ impl<W, C: Drop> Crew<W, C> {
     }
 
     /// Sends the ends that the couriers behind so many of them would send, and then the driver's.
-    fn dismiss_couriers<R: Wait>(&self, rt: &R, carrying: usize, own: Posts) {
+    fn dismiss_couriers<R: Wait>(&self, rt: &R, carrying: usize, mut own: Posts) {
         for slot in self.couriers.iter().skip(carrying) {
             let errand = slot.lock(rt).take();
-            if let Some(errand) = errand {
+            if let Some(mut errand) = errand {
                 errand.posts.end_all(rt);
             }
         }
