@@ -1,9 +1,10 @@
 -- How a process ends.
-use Rattle.std.specs.Prelude.{◌≡◌, ◌≢◌, ℕ, ◌-◌, ◌^◌, ◌<◌, ◌≤◌, true, List, [], ◌∷◌, ◌++◌, length, Result, Ok, Err, IfOk, IfErr, IsErrAnd, OnOk, refl}
+use Rattle.std.specs.Prelude.{◌≡◌, ℕ, ◌-◌, ◌^◌, ◌<◌, ◌≤◌, true, List, [], ◌∷◌, ◌++◌, length, Result, Ok, Err, IfOk, IfErr, IsErrAnd, OnOk, refl}
 use Rattle.std.proofs.Common.{sym, ◌∙◌, ap, subst, arith, append_assoc}
 use Rattle.curp_durable.specs.Standing.{taken}
 use Rattle.curp_durable.specs.Value.{DurableParts}
-use Rattle.curp_io.specs.Streams.{HoldsPart, Rose, SameCount}
+use Rattle.curp_io.specs.Streaming.{TellsFault}
+use Rattle.curp_io.specs.Streams.{HoldsPart, Rose}
 use Rattle.curp_journal.specs.declared.arrived.Arrived.{Arrived}
 use Rattle.curp_msg.specs.Moved.{Moved}
 use Rattle.curp_msg.specs.declared.machine.Input.{Input}
@@ -121,21 +122,21 @@ module _ {N D : Type 0} (machine : N → Input → Moved N) (disk : DiskKind D) 
 
   -- ---- faults
 
-  pub read_fault : (old new : Point N D) (it : FilterEnd) → Ran machine disk role old new it → it ≡ end.ReadFault → Rose old.source.faults new.source.faults
-  read_fault old new it ran is =
-      let cause = subst (λ (e : FilterEnd). EndsBy disk ran.breaks.cames ran.reached new e) is ran.breaks.cause in
-      subst (λ (n : ℕ). Rose n new.source.faults) ran.turned.took.same_faults cause.1
+  pub read_fault : (old new : Point N D) (it : FilterEnd) → Ran machine disk role old new it → TellsFault (it ≡ end.ReadFault) old.source.faults new.source.faults
+  read_fault old new it ran = record {
+    rose = λ is.
+        let cause = subst (λ (e : FilterEnd). EndsBy disk ran.breaks.cames ran.reached new e) is ran.breaks.cause in
+        subst (λ (n : ℕ). Rose n new.source.faults) ran.turned.took.same_faults cause.1;
+    stands = λ other. ran.breaks.source_faults other ∙ ran.turned.took.same_faults;
+  }
 
-  pub no_read_fault : (old new : Point N D) (it : FilterEnd) → Ran machine disk role old new it → it ≢ end.ReadFault → SameCount old.source.faults new.source.faults
-  no_read_fault old new it ran other = ran.breaks.source_faults other ∙ ran.turned.took.same_faults
-
-  pub write_fault : (old new : Point N D) (it : FilterEnd) → Ran machine disk role old new it → it ≡ end.WriteFault → Rose old.sink.faults new.sink.faults
-  write_fault old new it ran is =
-      let cause = subst (λ (e : FilterEnd). EndsBy disk ran.breaks.cames ran.reached new e) is ran.breaks.cause in
-      subst (λ (n : ℕ). Rose n new.sink.faults) ran.turned.wrote.same_faults cause
-
-  pub no_write_fault : (old new : Point N D) (it : FilterEnd) → Ran machine disk role old new it → it ≢ end.WriteFault → SameCount old.sink.faults new.sink.faults
-  no_write_fault old new it ran other = ran.breaks.unanswered.faults other ∙ ran.turned.wrote.same_faults
+  pub write_fault : (old new : Point N D) (it : FilterEnd) → Ran machine disk role old new it → TellsFault (it ≡ end.WriteFault) old.sink.faults new.sink.faults
+  write_fault old new it ran = record {
+    rose = λ is.
+        let cause = subst (λ (e : FilterEnd). EndsBy disk ran.breaks.cames ran.reached new e) is ran.breaks.cause in
+        subst (λ (n : ℕ). Rose n new.sink.faults) ran.turned.wrote.same_faults cause;
+    stands = λ other. ran.breaks.unanswered.faults other ∙ ran.turned.wrote.same_faults;
+  }
 
   -- ---- the whole input
 

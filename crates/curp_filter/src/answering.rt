@@ -1,7 +1,8 @@
 //! What the node answers, and what is said of it.
-ghost use Rattle.std.specs.Prelude.{◌≡◌, ◌≢◌, ◌≤◌, ◌++◌, [], true, false, IfOk, IfErr, IsOk, OnOk, Ok, Err};
+ghost use Rattle.std.specs.Prelude.{◌≡◌, ◌≤◌, ◌++◌, [], true, false, IfOk, IfErr, IsOk, OnOk, Ok, Err};
 ghost use Rattle.curp_durable.specs.Standing.{after, answers_of, taken};
-ghost use Rattle.curp_io.specs.Streams.{HoldsPart, Rose, SameCount};
+ghost use Rattle.curp_io.specs.Streaming.{TellsFault};
+ghost use Rattle.curp_io.specs.Streams.{HoldsPart};
 ghost use Rattle.curp_parcels.specs.Outgoing.{has_encoding};
 ghost use Rattle.curp_told.specs.Told.{all_told, parcels_of};
 ghost use Rattle.curp_filter.specs.Coming.{arrivals_of, came_last, came_together, number_behind};
@@ -150,8 +151,7 @@ pub fn write_text<K: Sink>(sink: &mut K, text: &[u8]) -> Result<(), FilterEnd>
     ensures passed_on { OnOk result (K.flushed sink.new ≡ true) }
     ensures writing { IfErr result IsOfWriting }
     ensures tells { K.tells sink.old ≡ true → K.tells sink.new ≡ true }
-    ensures cause { result ≡ Err FilterEnd.WriteFault → Rose (K.faults sink.old) (K.faults sink.new) }
-    ensures told { result ≢ Err FilterEnd.WriteFault → SameCount (K.faults sink.old) (K.faults sink.new) }
+    ensures write_fault { TellsFault (result ≡ Err FilterEnd.WriteFault) (K.faults sink.old) (K.faults sink.new) }
 {
     match write_piece(sink, text) {
         Written::Whole => pass_on(sink),
@@ -166,8 +166,7 @@ fn pass_on<K: Sink>(sink: &mut K) -> Result<(), FilterEnd>
     ensures passed_on { OnOk result (K.flushed sink.new ≡ true) }
     ensures stops { IfErr result (λ end. end ≡ FilterEnd.WriteFault) }
     ensures tells { K.tells sink.old ≡ true → K.tells sink.new ≡ true }
-    ensures cause { result ≡ Err FilterEnd.WriteFault → Rose (K.faults sink.old) (K.faults sink.new) }
-    ensures told { result ≢ Err FilterEnd.WriteFault → SameCount (K.faults sink.old) (K.faults sink.new) }
+    ensures write_fault { TellsFault (result ≡ Err FilterEnd.WriteFault) (K.faults sink.old) (K.faults sink.new) }
 {
     match sink.flush() {
         Flushed::Done => Ok(()),

@@ -1,5 +1,5 @@
-ghost use Rattle.std.specs.Prelude.{◌≡◌, ◌≢◌, ◌<◌, ◌-◌, ◌^◌, [], true, IfOk, IfErr};
-ghost use Rattle.curp_io.specs.Streams.{Rose, SameCount};
+ghost use Rattle.std.specs.Prelude.{◌≡◌, ◌<◌, ◌-◌, ◌^◌, [], true, IfOk, IfErr};
+ghost use Rattle.curp_io.specs.Streaming.{TellsFault};
 ghost use Rattle.curp_filter.specs.Keeping.{kind};
 ghost use Rattle.curp_parcels.specs.Reading.{nothing_read};
 ghost use Rattle.curp_filter.specs.Turning.{AnswersAll, AnswersFirst, Breaks, Filters, Turned, intake, outlet, point};
@@ -44,10 +44,8 @@ pub fn run_node<N: Core + Drop, D: Disk, S: Source, K: Sink>(
         (intake nothing_read (S.left source.old) (S.tells source.old) (S.faults source.old))
         (outlet (K.held sink.old) (K.tells sink.old) (K.faults sink.old) (K.flushed sink.old))
         (outlet (K.held sink.new) (K.tells sink.new) (K.faults sink.new) (K.flushed sink.new)) }
-    ensures read_fault { result ≡ FilterEnd.ReadFault → Rose (S.faults source.old) (S.faults source.new) }
-    ensures no_read_fault { result ≢ FilterEnd.ReadFault → SameCount (S.faults source.old) (S.faults source.new) }
-    ensures write_fault { result ≡ FilterEnd.WriteFault → Rose (K.faults sink.old) (K.faults sink.new) }
-    ensures no_write_fault { result ≢ FilterEnd.WriteFault → SameCount (K.faults sink.old) (K.faults sink.new) }
+    ensures read_fault { TellsFault (result ≡ FilterEnd.ReadFault) (S.faults source.old) (S.faults source.new) }
+    ensures write_fault { TellsFault (result ≡ FilterEnd.WriteFault) (K.faults sink.old) (K.faults sink.new) }
 {
     let mut parcels = Parcels::new(alloc);
     let mut number = 1;

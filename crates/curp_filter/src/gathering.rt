@@ -1,7 +1,7 @@
 //! What came together.
-ghost use Rattle.std.specs.Prelude.{◌≡◌, ◌≢◌, ◌<◌, ◌≤◌, ◌++◌, ℕ, List, length, true, Err, IfOk, IfErr, IfSome};
+ghost use Rattle.std.specs.Prelude.{◌≡◌, ◌<◌, ◌≤◌, ◌++◌, ℕ, List, length, true, Err, IfOk, IfErr, IfSome};
 ghost use Rattle.curp_base.specs.Words.{Each};
-ghost use Rattle.curp_io.specs.Streams.{Rose, SameCount};
+ghost use Rattle.curp_io.specs.Streaming.{TellsFault};
 ghost use Rattle.curp_filter.specs.Coming.{Comes, IsEndOf, IsReadyCame, arriving, came_together, parcel};
 ghost use Rattle.curp_filter.specs.Taking.{AreJudgedTogether, IsJudged, IsUnbegun, MayTake};
 ghost use Rattle.curp_filter.specs.Turning.{EndsInput, IsOfGathering};
@@ -42,8 +42,7 @@ pub(crate) fn gather<S: Source>(
         parcels.old.passed end (parcels.new.ahead ++ S.left source.new)) }
     ensures of_gathering { IfErr result IsOfGathering }
     ensures tells { S.tells source.old ≡ true → S.tells source.new ≡ true }
-    ensures cause { result ≡ Err FilterEnd.ReadFault → Rose (S.faults source.old) (S.faults source.new) }
-    ensures told { result ≢ Err FilterEnd.ReadFault → SameCount (S.faults source.old) (S.faults source.new) }
+    ensures read_fault { TellsFault (result ≡ Err FilterEnd.ReadFault) (S.faults source.old) (S.faults source.new) }
 {
     let first = came_of(role, count, parcels.next_parcel(source))?;
     Ok(gather_behind(alloc, role, count, first, parcels)?)

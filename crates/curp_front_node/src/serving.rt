@@ -1,5 +1,5 @@
 ghost use Rattle.std.specs.Prelude.{◌≡◌, ◌≢◌, IfErr, IsErr};
-ghost use Rattle.curp_io.specs.Streams.{Rose, SameCount};
+ghost use Rattle.curp_io.specs.Streaming.{TellsFault};
 ghost use Rattle.curp_front_node.specs.Ends.{IsOfNode, IsOfWaiting, IsOfWriting};
 
 use curp_base::{Items, NoMemory, Shared};
@@ -32,10 +32,8 @@ pub fn serve<D: Disk, S: Source, K: Sink>(
     source: &mut S,
     sink: &mut K,
 ) -> FilterEnd
-    ensures read_fault { result ≡ FilterEnd.ReadFault → Rose (S.faults source.old) (S.faults source.new) }
-    ensures no_read_fault { result ≢ FilterEnd.ReadFault → SameCount (S.faults source.old) (S.faults source.new) }
-    ensures write_fault { result ≡ FilterEnd.WriteFault → Rose (K.faults sink.old) (K.faults sink.new) }
-    ensures no_write_fault { result ≢ FilterEnd.WriteFault → SameCount (K.faults sink.old) (K.faults sink.new) }
+    ensures read_fault { TellsFault (result ≡ FilterEnd.ReadFault) (S.faults source.old) (S.faults source.new) }
+    ensures write_fault { TellsFault (result ≡ FilterEnd.WriteFault) (K.faults sink.old) (K.faults sink.new) }
 {
     let mut parcels = Parcels::new(alloc);
     let mut server = Server {
@@ -107,8 +105,7 @@ impl<'a, D: Disk> Server<'a, D> {
     /// Answers what is read ahead, and what connections ask for, and writes it at once.
     fn turn<K: Sink>(&mut self, parcels: &mut Parcels, sink: &mut K) -> Result<(), FilterEnd>
         ensures of_writing { IfErr result IsOfWriting }
-        ensures cause { result ≡ Err FilterEnd.WriteFault → Rose (K.faults sink.old) (K.faults sink.new) }
-        ensures told { result ≢ Err FilterEnd.WriteFault → SameCount (K.faults sink.old) (K.faults sink.new) }
+        ensures write_fault { TellsFault (result ≡ Err FilterEnd.WriteFault) (K.faults sink.old) (K.faults sink.new) }
     {
         self.answer_all(parcels)?;
         write_text(sink, &self.text)?;

@@ -1,6 +1,7 @@
 //! A buffer of bytes that are read ahead.
-ghost use Rattle.std.specs.Prelude.{◌≡◌, ◌≢◌, ◌≤◌, ◌++◌, [], length, take, drop, true, vec_len};
-ghost use Rattle.curp_io.specs.Streams.{FitsBuffer, Rose, SameCount, Takes};
+ghost use Rattle.std.specs.Prelude.{◌≡◌, ◌≤◌, ◌++◌, [], length, take, drop, true, vec_len};
+ghost use Rattle.curp_io.specs.Streaming.{TellsFault};
+ghost use Rattle.curp_io.specs.Streams.{FitsBuffer, Takes};
 ghost use Rattle.curp_parcels.specs.Buffer.{Adds};
 
 use curp_io::{Source, Taken};
@@ -37,8 +38,7 @@ pub(crate) fn read_behind<S: Source>(buffer: &mut Vec<u8>, source: &mut S) -> Fi
     ensures end { S.tells source.old ≡ true → result ≡ Filled.Bytes 0 → S.left source.new ≡ [] }
     ensures untouched { result ≡ Filled.NoMemory → source.new ≡ source.old }
     ensures tells { S.tells source.old ≡ true → S.tells source.new ≡ true }
-    ensures cause { result ≡ Filled.Failed → Rose (S.faults source.old) (S.faults source.new) }
-    ensures told { result ≢ Filled.Failed → SameCount (S.faults source.old) (S.faults source.new) }
+    ensures read_fault { TellsFault (result ≡ Filled.Failed) (S.faults source.old) (S.faults source.new) }
     ensures never_falls { S.faults source.old ≤ S.faults source.new }
 {
     let length = buffer.len();
@@ -66,8 +66,7 @@ fn take_behind<S: Source>(source: &mut S, buffer: &mut Vec<u8>, from: usize) -> 
     ensures bytes { S.tells source.old ≡ true
         → Takes (S.left source.old) (S.left source.new) result (drop from buffer.new.items) }
     ensures tells { S.tells source.old ≡ true → S.tells source.new ≡ true }
-    ensures cause { result ≡ Taken.Failed → Rose (S.faults source.old) (S.faults source.new) }
-    ensures told { result ≢ Taken.Failed → SameCount (S.faults source.old) (S.faults source.new) }
+    ensures read_fault { TellsFault (result ≡ Taken.Failed) (S.faults source.old) (S.faults source.new) }
     ensures never_falls { S.faults source.old ≤ S.faults source.new }
 {
     source.take(&mut buffer[from..])

@@ -1,5 +1,5 @@
-ghost use Rattle.std.specs.Prelude.{◌≡◌, ◌≢◌, ◌≤◌, ◌<◌, ◌+◌, ◌++◌, List, ℕ, [], length, take, drop, true, false, IfSome, None, Some};
-ghost use Rattle.curp_io.specs.Streams.{Rose, SameCount};
+ghost use Rattle.std.specs.Prelude.{◌≡◌, ◌≤◌, ◌<◌, ◌+◌, ◌++◌, List, ℕ, [], length, take, drop, true, false, IfSome, None, Some};
+ghost use Rattle.curp_io.specs.Streaming.{TellsFault};
 ghost use Rattle.curp_parcels.specs.Buffer.{Adds};
 ghost use Rattle.curp_parcels.specs.Parcels.{parcel_limit};
 ghost use Rattle.curp_parcels.specs.Reading.{FindsFirst, IsAtEnd, IsNextParcel, IsReady, LeavesAll, OfBytes, StandsFirst, StandsNot};
@@ -89,8 +89,7 @@ impl Parcels {
         // A parcel that is read ahead is given before anything is read.
         ensures waits { (content rest : List ℕ) → StandsFirst self.old.ahead content rest → source.new ≡ source.old }
         ensures tells { S.tells source.old ≡ true → S.tells source.new ≡ true }
-        ensures cause { result ≡ NextParcel.ReadFault → Rose (S.faults source.old) (S.faults source.new) }
-        ensures told { result ≢ NextParcel.ReadFault → SameCount (S.faults source.old) (S.faults source.new) }
+        ensures read_fault { TellsFault (result ≡ NextParcel.ReadFault) (S.faults source.old) (S.faults source.new) }
         ensures never_falls { S.faults source.old ≤ S.faults source.new }
     {
         'fills: loop {
@@ -119,8 +118,7 @@ impl Parcels {
         ensures waits { (content rest : List ℕ) → StandsFirst self.old.ahead content rest
             → (result ≡ None) × (source.new ≡ source.old) × (self.new ≡ self.old) }
         ensures tells { S.tells source.old ≡ true → S.tells source.new ≡ true }
-        ensures cause { result ≡ Some NextParcel.ReadFault → Rose (S.faults source.old) (S.faults source.new) }
-        ensures told { result ≢ Some NextParcel.ReadFault → SameCount (S.faults source.old) (S.faults source.new) }
+        ensures read_fault { TellsFault (result ≡ Some NextParcel.ReadFault) (S.faults source.old) (S.faults source.new) }
         ensures never_falls { S.faults source.old ≤ S.faults source.new }
     {
         'fills: loop {
@@ -235,8 +233,7 @@ impl Parcels {
             → self.new.ahead ++ S.left source.new ≡ self.old.ahead ++ S.left source.old }
         ensures end { S.tells source.old ≡ true → result ≡ Filled.Bytes 0 → S.left source.new ≡ [] }
         ensures tells { S.tells source.old ≡ true → S.tells source.new ≡ true }
-        ensures cause { result ≡ Filled.Failed → Rose (S.faults source.old) (S.faults source.new) }
-        ensures told { result ≢ Filled.Failed → SameCount (S.faults source.old) (S.faults source.new) }
+        ensures read_fault { TellsFault (result ≡ Filled.Failed) (S.faults source.old) (S.faults source.new) }
         ensures never_falls { S.faults source.old ≤ S.faults source.new }
     {
         self.tidy();

@@ -55,7 +55,7 @@ returns-in_err-write_text-clause-unanswered g c =
     (unanswered_part machine disk cames c.args.number c.args.node.now c.say.new.node before behind it
     (subst (λ l. MovesBy machine disk l c.args.node.now c.say.new.node) (sym (arrivals_together inputs c.args.batch.last)) c.in_ok-said.ensures.moved)
     (λ told. subst (λ l. HoldsPart (K.held c.args.sink.now) (K.held c.write_text.new.sink) l) (c.deref.ensures.value ∙ c.in_ok-said.ensures.text) (c.write_text.ensures.part told))
-    c.write_text.ensures.tells (λ other. c.write_text.ensures.told (λ is. other (same_error c.write_text.result it end.WriteFault c.in_err-write_text.was is))))
+    c.write_text.ensures.tells (λ other. c.write_text.ensures.write_fault.stands (λ is. other (same_error c.write_text.result it end.WriteFault c.in_err-write_text.was is))))
 
 pub returns-clause-moved : goal.returns-clause-moved
 returns-clause-moved g c =
@@ -71,4 +71,4 @@ returns-clause-wrote g c =
     (outlet (K.held c.args.sink.now) (K.tells c.args.sink.now) (K.faults c.args.sink.now) (K.flushed c.args.sink.now))
     (outlet (K.held c.write_text.new.sink) (K.tells c.write_text.new.sink) (K.faults c.write_text.new.sink) (K.flushed c.write_text.new.sink))
     (λ told. c.in_ok-write_text.ensures.wrote told ∙ ap (λ (t : List ℕ). K.held c.args.sink.now ++ t) (c.deref.ensures.value ∙ c.in_ok-said.ensures.text))
-    c.write_text.ensures.tells (c.write_text.ensures.told (λ is. never_both c.write_text.result _ end.WriteFault c.in_ok-write_text.was is)) c.in_ok-write_text.ensures.passed_on
+    c.write_text.ensures.tells (c.write_text.ensures.write_fault.stands (λ is. never_both c.write_text.result _ end.WriteFault c.in_ok-write_text.was is)) c.in_ok-write_text.ensures.passed_on

@@ -1,7 +1,7 @@
 use Rattle.std.proofs.Common.{◌≡◌, ◌<◌, ◌^◌, ◌-◌, ◌++◌, arith}
 use Rattle.curp_filter.specs.Keeping.{kind}
 use Rattle.curp_filter.proofs.Coming.{number_small}
-use Rattle.curp_filter.proofs.Running.{all_came, all_written, breaks_counted, first_came, first_judged, first_kept, first_written, no_read_fault, no_write_fault, none_left, nothing_behind, ran_to, read_fault, write_fault}
+use Rattle.curp_filter.proofs.Running.{all_came, all_written, breaks_counted, first_came, first_judged, first_kept, first_written, none_left, nothing_behind, ran_to, read_fault, write_fault}
 use Rattle.curp_filter.proofs.Turning.{turned_again, turned_none}
 use Rattle.curp_filter.proofs.filter.run_node.Goals as goal
 
@@ -32,32 +32,18 @@ returns-in-Err-clause-runs g c =
     }
 
 pub returns-in-Err-clause-read_fault : goal.returns-in-Err-clause-read_fault
-returns-in-Err-clause-read_fault g c is =
+returns-in-Err-clause-read_fault g c =
     let machine = g.N.Core.machine in
     let D = g.D.Disk in
     let disk = kind D.tells D.seen D.may_leave D.moment D.left_since D.faults in
-    read_fault machine disk c.args.role _ _ _ (ran_to machine disk c.args.role _ _ _ _ c.batches.invariant c.in-Err.ensures.breaks) is
-
-pub returns-in-Err-clause-no_read_fault : goal.returns-in-Err-clause-no_read_fault
-returns-in-Err-clause-no_read_fault g c other =
-    let machine = g.N.Core.machine in
-    let D = g.D.Disk in
-    let disk = kind D.tells D.seen D.may_leave D.moment D.left_since D.faults in
-    no_read_fault machine disk c.args.role _ _ _ (ran_to machine disk c.args.role _ _ _ _ c.batches.invariant c.in-Err.ensures.breaks) other
+    read_fault machine disk c.args.role _ _ _ (ran_to machine disk c.args.role _ _ _ _ c.batches.invariant c.in-Err.ensures.breaks)
 
 pub returns-in-Err-clause-write_fault : goal.returns-in-Err-clause-write_fault
-returns-in-Err-clause-write_fault g c is =
+returns-in-Err-clause-write_fault g c =
     let machine = g.N.Core.machine in
     let D = g.D.Disk in
     let disk = kind D.tells D.seen D.may_leave D.moment D.left_since D.faults in
-    write_fault machine disk c.args.role _ _ _ (ran_to machine disk c.args.role _ _ _ _ c.batches.invariant c.in-Err.ensures.breaks) is
-
-pub returns-in-Err-clause-no_write_fault : goal.returns-in-Err-clause-no_write_fault
-returns-in-Err-clause-no_write_fault g c other =
-    let machine = g.N.Core.machine in
-    let D = g.D.Disk in
-    let disk = kind D.tells D.seen D.may_leave D.moment D.left_since D.faults in
-    no_write_fault machine disk c.args.role _ _ _ (ran_to machine disk c.args.role _ _ _ _ c.batches.invariant c.in-Err.ensures.breaks) other
+    write_fault machine disk c.args.role _ _ _ (ran_to machine disk c.args.role _ _ _ _ c.batches.invariant c.in-Err.ensures.breaks)
 
 pub returns-in-Err-clause-answered : goal.returns-in-Err-clause-answered
 returns-in-Err-clause-answered g c tells writes is =
@@ -122,8 +108,8 @@ returns-clause-runs g c =
       ran = ran_to g.N.Core.machine disk c.args.role _ _ _ _ c.batches.invariant (breaks_counted g.N.Core.machine disk c.args.role g.met.D.Disk.only_now _ counted);
     }
 
-pub returns-clause-no_read_fault : goal.returns-clause-no_read_fault
-returns-clause-no_read_fault g c other = c.batches.invariant.took.same_faults
+pub returns-clause-read_fault : goal.returns-clause-read_fault
+returns-clause-read_fault g c = record { rose = λ is. absurd cc; stands = λ other. c.batches.invariant.took.same_faults }
 
-pub returns-clause-no_write_fault : goal.returns-clause-no_write_fault
-returns-clause-no_write_fault g c other = c.batches.invariant.wrote.same_faults
+pub returns-clause-write_fault : goal.returns-clause-write_fault
+returns-clause-write_fault g c = record { rose = λ is. absurd cc; stands = λ other. c.batches.invariant.wrote.same_faults }

@@ -22,7 +22,7 @@ returns-in_err-batch-clause-breaks g c =
     let it = c.in_err-batch.field-0.0 in
     passed_on (Breaks machine disk c.args.role old (point source c.args.number c.args.node.now sink)) c.from_residual.result it c.from_residual.ensures.1
     (breaks_asking machine disk c.args.role g.met.D.Disk.only_now it old source c.in_err-batch.ensures.of_gathering c.in_err-batch.ensures.ends c.gather.ensures.tells
-    (λ is. c.gather.ensures.cause (c.in_err-batch.was ∙ ap (λ e. Err e) is)) (λ other. c.gather.ensures.told (λ is. other (same_error c.gather.result it end.ReadFault c.in_err-batch.was is))))
+    (λ is. c.gather.ensures.read_fault.rose (c.in_err-batch.was ∙ ap (λ e. Err e) is)) (λ other. c.gather.ensures.read_fault.stands (λ is. other (same_error c.gather.result it end.ReadFault c.in_err-batch.was is))))
 
 pub returns-clause-turned : goal.returns-clause-turned
 returns-clause-turned g c =
@@ -31,7 +31,7 @@ returns-clause-turned g c =
     answered_turned g.N.Core.machine (kind D.tells D.seen D.may_leave D.moment D.left_since D.faults) c.args.role c.answer.result (came_together batch.arrived.items batch.last) _ _ _ _
     (judged_together g.N.Core.machine c.args.role batch.arrived.items batch.last c.args.node.now.stand
     (subst (λ n. AreJudgedTogether c.args.role n batch.arrived.items batch.last) c.count.ensures c.in_ok-batch.ensures.judged))
-    (record { comes = c.in_ok-batch.ensures.gathers; tells = c.gather.ensures.tells; same_faults = c.gather.ensures.told (λ is. never_both c.gather.result batch end.ReadFault c.in_ok-batch.was is) })
+    (record { comes = c.in_ok-batch.ensures.gathers; tells = c.gather.ensures.tells; same_faults = c.gather.ensures.read_fault.stands (λ is. never_both c.gather.result batch end.ReadFault c.in_ok-batch.was is) })
     c.answer.ensures.moved c.answer.ensures.wrote c.answer.ensures.counted
 
 pub returns-clause-breaks : goal.returns-clause-breaks
@@ -41,7 +41,7 @@ returns-clause-breaks g c =
     answered_breaks g.N.Core.machine (kind D.tells D.seen D.may_leave D.moment D.left_since D.faults) c.args.role c.answer.result (came_together batch.arrived.items batch.last) _ _
     (judged_together g.N.Core.machine c.args.role batch.arrived.items batch.last c.args.node.now.stand
     (subst (λ n. AreJudgedTogether c.args.role n batch.arrived.items batch.last) c.count.ensures c.in_ok-batch.ensures.judged))
-    (record { comes = c.in_ok-batch.ensures.gathers; tells = c.gather.ensures.tells; same_faults = c.gather.ensures.told (λ is. never_both c.gather.result batch end.ReadFault c.in_ok-batch.was is) })
+    (record { comes = c.in_ok-batch.ensures.gathers; tells = c.gather.ensures.tells; same_faults = c.gather.ensures.read_fault.stands (λ is. never_both c.gather.result batch end.ReadFault c.in_ok-batch.was is) })
     c.answer.ensures.unanswered c.answer.ensures.cause
 
 pub returns-clause-counts : goal.returns-clause-counts

@@ -11,8 +11,11 @@ returns-in-Some-clause-bytes g c = λ told.
 pub returns-in-Some-clause-waits : goal.returns-in-Some-clause-waits
 returns-in-Some-clause-waits g c = λ content rest s. (c.fills.invariant.waits content rest s).0
 
-pub returns-in-Some-clause-cause : goal.returns-in-Some-clause-cause
-returns-in-Some-clause-cause g c = λ e. absurd (no_read_fault c.in-Some.answer c.in-Some.ensures.of_bytes e)
+pub returns-in-Some-clause-read_fault : goal.returns-in-Some-clause-read_fault
+returns-in-Some-clause-read_fault g c = record {
+  rose = λ e. absurd (no_read_fault c.in-Some.answer c.in-Some.ensures.of_bytes e);
+  stands = λ other. c.fills.invariant.same_count;
+}
 
 pub returns-in-Failed-clause-bytes : goal.returns-in-Failed-clause-bytes
 returns-in-Failed-clause-bytes g c = λ told.
@@ -52,8 +55,11 @@ pub returns-in-Bytes-eq0-clause-waits : goal.returns-in-Bytes-eq0-clause-waits
 returns-in-Bytes-eq0-clause-waits g c = λ content rest s.
     absurd (not_due c.args.self.now c.fills.self content rest (c.fills.invariant.waits content rest s).1 c.in_default.ensures.answer.1 s)
 
-pub returns-in-Bytes-eq0-clause-cause : goal.returns-in-Bytes-eq0-clause-cause
-returns-in-Bytes-eq0-clause-cause g c = λ e. absurd (no_fault_at_end c.fill.new.self c.at_end.result c.at_end.ensures e)
+pub returns-in-Bytes-eq0-clause-read_fault : goal.returns-in-Bytes-eq0-clause-read_fault
+returns-in-Bytes-eq0-clause-read_fault g c = record {
+  rose = λ e. absurd (no_fault_at_end c.fill.new.self c.at_end.result c.at_end.ensures e);
+  stands = λ other. c.in-Bytes-eq0.ensures.read_fault.stands (λ e. absurd cc) ∙ c.fills.invariant.same_count;
+}
 
 pub fills-smaller : goal.fills-smaller
 fills-smaller g c =
@@ -69,5 +75,5 @@ fills-preserved g c =
           c.fills.invariant.still looked.0 c.fill.ensures.passed (λ t. c.fill.ensures.bytes (c.fills.invariant.tells t));
       waits = λ content rest s. absurd (not_due c.args.self.now c.fills.self content rest (c.fills.invariant.waits content rest s).1 looked.1 s);
       tells = λ told. c.fill.ensures.tells (c.fills.invariant.tells told);
-      same_count = c.in-Bytes.ensures.told (λ e. absurd cc) ∙ c.fills.invariant.same_count;
+      same_count = c.in-Bytes.ensures.read_fault.stands (λ e. absurd cc) ∙ c.fills.invariant.same_count;
     }
