@@ -1,6 +1,9 @@
-ghost use Rattle.std.specs.Prelude.{◌≡◌, ◌≢◌, IfErr, IsErr};
+ghost use Rattle.std.specs.Prelude.{◌≡◌, ◌++◌, ◌∷◌, [], true, Err, IfErr, IfOk, OnOk};
 ghost use Rattle.curp_io.specs.Streaming.{TellsFault};
-ghost use Rattle.curp_front_node.specs.Ends.{IsOfNode, IsOfWaiting, IsOfWriting};
+ghost use Rattle.curp_base.specs.Words.{Each};
+ghost use Rattle.curp_cmd.specs.Node.{client_node};
+ghost use Rattle.curp_journal.specs.Own.{IsOwn};
+ghost use Rattle.curp_front_node.specs.Ends.{IsEndOfWait, IsOfNode, IsOfWaiting, IsOfWriting, refusal_of, told_of, turned_away};
 
 use curp_base::{Items, NoMemory, Shared};
 use curp_client::InvokeError;
@@ -32,6 +35,8 @@ pub fn serve<D: Disk, S: Source, K: Sink>(
     source: &mut S,
     sink: &mut K,
 ) -> FilterEnd
+    // Where it ended behind a parcel, nothing is left of the input.
+    ensures end { S.tells source.old ≡ true → result ≡ FilterEnd.End → S.left source.new ≡ [] }
     ensures read_fault { TellsFault (result ≡ FilterEnd.ReadFault) (S.faults source.old) (S.faults source.new) }
     ensures write_fault { TellsFault (result ≡ FilterEnd.WriteFault) (K.faults sink.old) (K.faults sink.new) }
 {
@@ -57,8 +62,7 @@ pub fn serve<D: Disk, S: Source, K: Sink>(
 
 /// How a process ends that waits for a parcel.
 fn end_of(stop: &NextParcel) -> FilterEnd
-    ensures fault { result ≡ FilterEnd.ReadFault → stop.now ≡ NextParcel.ReadFault }
-    ensures no_fault { result ≢ FilterEnd.ReadFault → stop.now ≢ NextParcel.ReadFault }
+    ensures end { IsEndOfWait stop.now result }
     ensures of_waiting { IsOfWaiting result }
 {
     match stop {
@@ -134,7 +138,8 @@ impl<'a, D: Disk> Server<'a, D> {
     /// Takes what is read ahead whole, up to what the node isn't given: inputs of the node are given back, and connections
     /// get what is theirs.
     fn take(&mut self, parcels: &mut Parcels) -> Result<ReadAhead, FilterEnd>
-        ensures { IfErr result IsOfNode }
+        ensures of_node { IfErr result IsOfNode }
+        ensures own { IfOk result (λ taken. Each (IsOwn (client_node self.old.client)) taken.arrived.items) }
     {
         let mut arrived = Vec::new(self.alloc);
         for taken in 0..u64::MAX {
@@ -170,7 +175,9 @@ impl<'a, D: Disk> Server<'a, D> {
     }
 
     /// Gives connections what is theirs.
-    fn take_front(&mut self, input: &FrontInput) -> Result<(), NoMemory> {
+    fn take_front(&mut self, input: &FrontInput) -> Result<(), NoMemory>
+        ensures client { self.new.client ≡ self.old.client }
+    {
         match input {
             FrontInput::Bytes { connection, bytes } => {
                 match self.fronts.on_bytes(*connection, bytes.as_slice())? {
@@ -194,7 +201,10 @@ impl<'a, D: Disk> Server<'a, D> {
     }
 
     /// Tells a connection that there are too many.
-    fn turn_away(&mut self, connection: u64) -> Result<(), NoMemory> {
+    fn turn_away(&mut self, connection: u64) -> Result<(), NoMemory>
+        ensures told { OnOk result (self.new.text.items ≡ self.old.text.items ++ turned_away connection) }
+        ensures client { self.new.client ≡ self.old.client }
+    {
         let bytes = Items::new(Vec::from_slice(self.alloc, too_many_text())?);
         self.tell_front(&FrontOutput::Reply { connection, bytes })?;
         self.tell_front(&FrontOutput::Close { connection })
@@ -310,7 +320,10 @@ impl<'a, D: Disk> Server<'a, D> {
         Ok(())
     }
 
-    fn tell_front(&mut self, output: &FrontOutput) -> Result<(), NoMemory> {
+    fn tell_front(&mut self, output: &FrontOutput) -> Result<(), NoMemory>
+        ensures told { OnOk result (self.new.text.items ≡ self.old.text.items ++ told_of output.now) }
+        ensures client { self.new.client ≡ self.old.client }
+    {
         if is_short(output) {
             write_front_output(output, &mut self.text)
         } else {
@@ -326,7 +339,9 @@ struct AskedOrders {
     orders: Vec<Arrived>,
 }
 
-fn add(arrived: &mut Vec<Arrived>, input: Arrived) -> Result<(), NoMemory> {
+fn add(arrived: &mut Vec<Arrived>, input: Arrived) -> Result<(), NoMemory>
+    ensures { OnOk result (arrived.new.items ≡ arrived.old.items ++ input ∷ []) }
+{
     Ok(arrived.push(input)?)
 }
 
@@ -339,7 +354,9 @@ fn front_ahead(alloc: Global, parcels: &Parcels) -> Result<Option<FrontInput>, N
 }
 
 /// Why a command wasn't invoked, by the number of the refusal.
-fn refusal_of(number: u8) -> InvokeRefusal {
+fn refusal_of(number: u8) -> InvokeRefusal
+    ensures { result ≡ refusal_of number }
+{
     if number == InvokeError::Split.number() {
         InvokeRefusal::Split
     } else {
