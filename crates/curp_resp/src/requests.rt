@@ -1,4 +1,5 @@
 ghost use Rattle.std.specs.Prelude.{◌≡◌, ◌≢◌, ◌≤◌, ◌<◌, ◌^◌, ◌++◌, ◌↔◌, ℕ, List, [], true, false, None, Some, IfOk};
+ghost use Rattle.curp_io.specs.Streaming.{TellsFault};
 ghost use Rattle.curp_io.specs.Streams.{Rose, SameCount};
 ghost use Rattle.curp_resp.specs.Feeds.{Feeds, Passes, read_on};
 ghost use Rattle.curp_resp.specs.Input.{NoneStandsFirst, SomeStandsFirst, StandsFirst};
@@ -160,8 +161,7 @@ fn find_request<S: Source>(window: &mut Window, source: &mut S) -> NextRequest
         → result ≢ NextRequest.ReadFault }
     ensures none_ahead { result ≡ NextRequest.ReadFault → window.new.bytes ≡ [] }
     ensures tells { S.tells source.old ≡ true → S.tells source.new ≡ true }
-    ensures cause { result ≡ NextRequest.ReadFault → Rose (S.faults source.old) (S.faults source.new) }
-    ensures told { result ≢ NextRequest.ReadFault → SameCount (S.faults source.old) (S.faults source.new) }
+    ensures read_fault { TellsFault (result ≡ NextRequest.ReadFault) (S.faults source.old) (S.faults source.new) }
     ensures never_falls { S.faults source.old ≤ S.faults source.new }
 {
     let mut reading = Reading::new();

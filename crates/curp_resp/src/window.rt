@@ -1,6 +1,7 @@
 ghost use Rattle.std.specs.Prelude.{◌≡◌, ◌≢◌, ◌≤◌, ◌<◌, ◌++◌, [], drop, true, vec_len, IfOk};
 ghost use Rattle.curp_base.specs.Words.{first_of};
-ghost use Rattle.curp_io.specs.Streams.{FitsBuffer, Rose, SameCount, Takes, one_more};
+ghost use Rattle.curp_io.specs.Streaming.{TellsFault};
+ghost use Rattle.curp_io.specs.Streams.{FitsBuffer, Takes, one_more};
 ghost use Rattle.curp_resp.specs.Feeds.{Fills};
 
 use curp_base::NoMemory;
@@ -83,8 +84,7 @@ impl Window {
             → self.new.bytes ++ S.left source.new ≡ self.old.bytes ++ S.left source.old }
         ensures end { S.tells source.old ≡ true → result ≡ Taken.Bytes 0 → S.left source.new ≡ [] }
         ensures tells { S.tells source.old ≡ true → S.tells source.new ≡ true }
-        ensures cause { result ≡ Taken.Failed → Rose (S.faults source.old) (S.faults source.new) }
-        ensures told { result ≢ Taken.Failed → SameCount (S.faults source.old) (S.faults source.new) }
+        ensures read_fault { TellsFault (result ≡ Taken.Failed) (S.faults source.old) (S.faults source.new) }
         ensures never_falls { S.faults source.old ≤ S.faults source.new }
     {
         if self.start < self.end {
@@ -107,8 +107,7 @@ fn take<S: Source>(source: &mut S, buffer: &mut Vec<u8>) -> Taken
     ensures bytes { S.tells source.old ≡ true
         → Takes (S.left source.old) (S.left source.new) result buffer.new.items }
     ensures tells { S.tells source.old ≡ true → S.tells source.new ≡ true }
-    ensures cause { result ≡ Taken.Failed → Rose (S.faults source.old) (S.faults source.new) }
-    ensures told { result ≢ Taken.Failed → SameCount (S.faults source.old) (S.faults source.new) }
+    ensures read_fault { TellsFault (result ≡ Taken.Failed) (S.faults source.old) (S.faults source.new) }
     ensures never_falls { S.faults source.old ≤ S.faults source.new }
 {
     source.take(&mut buffer[..])

@@ -58,7 +58,7 @@ pieces-preserved g c = record {
       let fed = subst (λ r. Feeds (read_on c.fill.new.self.bytes r) progress.More c.feed.new.reading c.feed.new.window.bytes) at.2 c.in-More.ensures.read in
       absurd (no_more_ahead c.fill.new.self.bytes arguments rest c.feed.new.reading c.feed.new.window.bytes (subst (λ w. StandsFirst w.bytes arguments rest) (sym same.0) first) fed);
   tells = λ told. c.fill.ensures.tells (c.pieces.invariant.tells told);
-  same_count = c.in-Bytes.ensures.told (λ e. absurd cc) ∙ c.pieces.invariant.same_count;
+  same_count = c.in-Bytes.ensures.read_fault.stands (λ e. absurd cc) ∙ c.pieces.invariant.same_count;
 }
 
 pub returns-in-Whole-clause-bytes : goal.returns-in-Whole-clause-bytes
