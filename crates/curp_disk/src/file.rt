@@ -1,7 +1,8 @@
 //! A file of the system as a disk.
-ghost use Rattle.std.specs.Prelude.{◌≡◌, ◌≤◌, ⊤, length, [], false, IfOk};
-ghost use Rattle.curp_io.specs.Streams.{one_more};
-ghost use Rattle.curp_disk.specs.OnFile.{file_reads, file_counts, file_only};
+ghost use Rattle.std.specs.Prelude.{◌≡◌, ◌≢◌, ◌≤◌, ⊤, length, [], false, IfOk};
+ghost use Rattle.curp_io.specs.Streams.{Rose, SameCount};
+ghost use Rattle.curp_disk.specs.Disk.{IsWithin};
+ghost use Rattle.curp_disk.specs.OnFile.{FileAsked, FileRan, FileSynced, faulted, fresh_file, file_reads, file_counts, file_only};
 
 use crate::disk::{Did, Disk, Long};
 use std::fs::{File, TryLockError};
@@ -53,7 +54,7 @@ impl From<io::Error> for FileError {
     }
 }
 
-/// A file of the system as a disk, seen as its count of faults.
+/// A file of the system as a disk, seen as its count of faults, and whether a sync has failed.
 ///
 /// No clause says which bytes it has (`tells`). Over it a program does what is proved over disks that tell, if the
 /// system does as follows, which is trusted:
@@ -85,18 +86,18 @@ impl Drop for FileDisk {
 }
 
 impl Model for FileDisk {
-    ghost use Rattle.std.specs.Prelude.{ℕ};
+    ghost use Rattle.curp_disk.specs.OnFile.{FileParts};
 
-    ghost Value = { ℕ };
+    ghost Value = { FileParts };
 
-    ghost view = { λ d. d.faults };
+    ghost view = { λ d. record { sync_failed = d.sync_failed; faults = d.faults } };
 }
 
 impl FileDisk {
     /// Makes a file, which must not be there, and opens it, empty. The file is synced, and so is the folder that it is
     /// in, so that a crash leaves it.
     pub fn make<R: Files<File = File>>(rt: &R, path: &str) -> Result<FileDisk, FileError>
-        ensures { IfOk result (λ disk. disk ≡ 0) }
+        ensures { IfOk result (λ disk. disk ≡ fresh_file) }
     {
         let disk = FileDisk::lock(File::create_new(rt, path)?)?;
         disk.file.sync_all()?;
@@ -106,7 +107,7 @@ impl FileDisk {
 
     /// Opens a file that is there.
     pub fn open<R: Files<File = File>>(rt: &R, path: &str) -> Result<FileDisk, FileError>
-        ensures { IfOk result (λ disk. disk ≡ 0) }
+        ensures { IfOk result (λ disk. disk ≡ fresh_file) }
     {
         let mut options = File::options();
         options.read(true).write(true);
@@ -115,7 +116,7 @@ impl FileDisk {
 
     /// A disk over a file that was opened, if no other is over it.
     fn lock(file: File) -> Result<FileDisk, FileError>
-        ensures { IfOk result (λ disk. disk ≡ 0) }
+        ensures { IfOk result (λ disk. disk ≡ fresh_file) }
     {
         match file.try_lock() {
             Ok(()) => Ok(FileDisk {
@@ -129,8 +130,8 @@ impl FileDisk {
     }
 
     fn count_fault(&mut self)
-        ensures faults { self.new ≡ one_more self.old }
-        ensures never_falls { self.old ≤ self.new }
+        ensures faults { self.new ≡ faulted self.old }
+        ensures never_falls { self.old.faults ≤ self.new.faults }
     {
         self.faults = self.faults.saturating_add(1);
     }
@@ -179,13 +180,13 @@ impl Disk for FileDisk {
 
     ghost left_since = { λ d t c. ⊤ };
 
-    ghost faults = { λ d. d };
+    ghost faults = { λ d. d.faults };
 
     ghost sound = { λ d. ⊥ };
 
-    ghost wrote = { λ old at bytes result new. ⊤ };
+    ghost wrote = { λ old at bytes result new. FileRan old result new };
 
-    ghost synced = { λ old result new. ⊤ };
+    ghost synced = { λ old result new. FileSynced old result new };
 
     ghost reads_now = { file_reads };
 
@@ -193,7 +194,13 @@ impl Disk for FileDisk {
 
     ghost only_now = { file_only };
 
-    fn read(&mut self, at: u64, buf: &mut [u8]) -> Did {
+    fn read(&mut self, at: u64, buf: &mut [u8]) -> Did
+        ensures within { IsWithin result (length buf.new) }
+        ensures cause { result ≡ Did.Failed → Rose self.old.faults self.new.faults }
+        ensures told { result ≢ Did.Failed → SameCount self.old.faults self.new.faults }
+        ensures never_falls { self.old.faults ≤ self.new.faults }
+        ensures ran { FileRan self.old result self.new }
+    {
         match read_from(&self.file, at, buf) {
             Ok(count) => Did::Done(count),
             Err(_) => {
@@ -203,7 +210,12 @@ impl Disk for FileDisk {
         }
     }
 
-    fn length(&mut self) -> Long {
+    fn length(&mut self) -> Long
+        ensures cause { result ≡ Long.Failed → Rose self.old.faults self.new.faults }
+        ensures told { result ≢ Long.Failed → SameCount self.old.faults self.new.faults }
+        ensures never_falls { self.old.faults ≤ self.new.faults }
+        ensures asked { FileAsked self.old result self.new }
+    {
         match self.file.seek(SeekFrom::End(0)) {
             Ok(bytes) => Long::Bytes(bytes),
             Err(_) => {

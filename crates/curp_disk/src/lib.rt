@@ -5,8 +5,10 @@
 //!   what the disk reads as, `cause` that a failure raises the count of faults, `told` that any other answer leaves it,
 //!   and `sound` that a disk which has no failing call before it has none. `whole` is what one kind of disk adds.
 //! - What of it speaks of bytes has the premise that the kind of disk tells them (`tells`).
-//! - `FileDisk`: a file of the system. It tells no byte, and counts its faults.
-//! - `MemoryDisk`: its listed calls fail. `StopDisk`: it fails from an armed call on. Of both `whole` is exact: which
+//! - `FileDisk`: a file of the system. It tells no byte, and counts its faults. Of a sync `whole` says that it fails once one
+//!   has failed.
+//! - `MemoryDisk`: its listed calls fail. `StopDisk`: it fails from an armed call on; its `read` and `length` change nothing,
+//!   and never fail (`same`, `goes`). Of both `whole` is exact: which
 //!   writes and syncs were made, in their order; `crash`, exact, keeps the unsynced writes, or none of them.
 #![tactic(auto)]
 

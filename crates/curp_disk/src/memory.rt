@@ -99,6 +99,7 @@ impl Disk for MemoryDisk {
         ensures never_falls { self.old.calls.faults ≤ self.new.calls.faults }
         ensures played { self.new.played ≡ self.old.played }
         ensures fails { (result ≡ Did.Failed) ↔ (fails self.old.calls ≡ true) }
+        ensures no_memory { result ≢ Did.NoMemory }
         ensures calls { self.new.calls ≡ called self.old.calls }
     {
         match self.schedule.turn() {

@@ -1,5 +1,7 @@
-ghost use Rattle.std.specs.Prelude.{◌≡◌, true, ◌≤◌, length, [], None, Some, if◌then◌else◌};
+ghost use Rattle.std.specs.Prelude.{◌≡◌, ◌≢◌, true, ◌≤◌, length, [], None, Some, if◌then◌else◌};
+ghost use Rattle.curp_io.specs.Streams.{Rose, SameCount};
 ghost use Rattle.curp_disk.specs.Calls.{seen_of, LeftNow, LeftSince};
+ghost use Rattle.curp_disk.specs.Disk.{Elapses, GivesBytes, HasLength, IsWithin, Narrows};
 ghost use Rattle.curp_disk.specs.InMemory.{StopRan, crashed, one_less, stopped, stops};
 ghost use Rattle.curp_disk.specs.Moments.{reads_now, counts_now, only_now};
 ghost use Rattle.curp_disk.specs.declared.medium.Call.TheVariants.{Write, Sync};
@@ -115,11 +117,37 @@ impl Disk for StopDisk {
 
     ghost only_now = { λ d. only_now d.played };
 
-    fn read(&mut self, at: u64, buf: &mut [u8]) -> Did {
+    fn read(&mut self, at: u64, buf: &mut [u8]) -> Did
+        ensures within { IsWithin result (length buf.new) }
+        ensures bytes { true ≡ true → GivesBytes (seen_of self.old.played) at result buf.new }
+        ensures seen { seen_of self.new.played ≡ seen_of self.old.played }
+        ensures crash { Narrows (LeftNow self.old.played) (LeftNow self.new.played) }
+        ensures time { Elapses (length self.old.played.calls) (length self.new.played.calls)
+            (LeftSince self.old.played) (LeftSince self.new.played) (LeftNow self.new.played) }
+        ensures sound { self.old.armed ≡ None → (result ≢ Did.Failed) × (self.new.armed ≡ None) }
+        ensures cause { result ≡ Did.Failed → Rose self.old.faults self.new.faults }
+        ensures told { result ≢ Did.Failed → SameCount self.old.faults self.new.faults }
+        ensures never_falls { self.old.faults ≤ self.new.faults }
+        ensures same { self.new ≡ self.old }
+        ensures goes { result ≢ Did.Failed }
+        ensures no_memory { result ≢ Did.NoMemory }
+    {
         Did::Done(self.medium.read(at, buf))
     }
 
-    fn length(&mut self) -> Long {
+    fn length(&mut self) -> Long
+        ensures bytes { true ≡ true → HasLength (seen_of self.old.played) result }
+        ensures seen { seen_of self.new.played ≡ seen_of self.old.played }
+        ensures crash { Narrows (LeftNow self.old.played) (LeftNow self.new.played) }
+        ensures time { Elapses (length self.old.played.calls) (length self.new.played.calls)
+            (LeftSince self.old.played) (LeftSince self.new.played) (LeftNow self.new.played) }
+        ensures sound { self.old.armed ≡ None → (result ≢ Long.Failed) × (self.new.armed ≡ None) }
+        ensures cause { result ≡ Long.Failed → Rose self.old.faults self.new.faults }
+        ensures told { result ≢ Long.Failed → SameCount self.old.faults self.new.faults }
+        ensures never_falls { self.old.faults ≤ self.new.faults }
+        ensures same { self.new ≡ self.old }
+        ensures goes { result ≢ Long.Failed }
+    {
         Long::Bytes(self.medium.length())
     }
 

@@ -7,6 +7,9 @@ const KEPT: &str = "curp_test_journals_kept";
 
 const REFUSED: &str = "curp_test_journals_refused";
 
+/// A file of which the system knows no sync and no length, and which no other process has.
+const NEVER_SYNCED: &str = "/proc/self/comm";
+
 #[test]
 fn what_is_written_stands_in_the_file(rt: HostRuntime) -> Result<(), Fail> {
     let _ = fs::remove_file(&rt, KEPT);
@@ -45,5 +48,18 @@ fn a_file_is_refused_by_its_cause(rt: HostRuntime) -> Result<(), Fail> {
     drop(disk);
     drop(FileDisk::open(&rt, REFUSED)?);
     fs::remove_file(&rt, REFUSED)?;
+    Ok(())
+}
+
+#[test]
+fn a_sync_that_failed_is_told_each_time(rt: HostRuntime) -> Result<(), Fail> {
+    let mut disk = FileDisk::open(&rt, NEVER_SYNCED)?;
+    let mut bytes = [0; 64];
+    assert!(rt; matches!(disk.read(0, &mut bytes), Did::Done(_)));
+    assert!(rt; disk.length() == Long::Failed);
+    for _ in 0..3 {
+        assert!(rt; disk.sync() == Did::Failed);
+    }
+    drop(disk);
     Ok(())
 }
