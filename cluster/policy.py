@@ -16,7 +16,7 @@ class Numbers:
     """Seconds, where nothing else is said."""
 
     tick: float = 0.005  # how often it is looked what is due
-    retry: float = 0.2  # a request that heard nothing for so long is retried; then after twice as long, and so on
+    retry: float = 0.2  # a request that wasn't sent for so long is retried; then after twice as long, and so on
     retry_most: float = 1.6  # but at least so often
     fetch: float = 0.05  # a client asks for the configuration no sooner again
     sync_updates: int = 8  # a master begins a round after so many answers that no backup has yet; never where it is 0
@@ -53,7 +53,7 @@ class Waiting:
 
 
 class ClientChores:
-    """Retries what hears nothing, and asks for the configuration where the one that it has may be old."""
+    """Retries what wasn't sent for a while, and asks for the configuration where the one that it has may be old."""
 
     OLD = {1, 2, 3, 7}  # refusals: version, epoch, not-owner, switching
 

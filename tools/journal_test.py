@@ -30,7 +30,7 @@ import curpwire  # noqa: E402
 
 HEADER = '{"clients":2,"f":1,"fast":true,"parts":1,"protocol":1,"sets":64,"ways":4}'
 OTHER_HEADER = HEADER.replace('"clients":2', '"clients":3')
-TITLE = 36  # bytes of a journal before its first gate
+TITLE = 36  # bytes of a journal before its first commit byte
 FETCH = curpparcels.encode("in", {"kind": "order", "order": {"kind": "fetch"}, "stamp": 0})
 NUDGE = curpparcels.encode("in", {"kind": "order", "order": {"kind": "nudge"}, "stamp": 0})
 NO_CLIENT = curpparcels.encode("in", {"kind": "order", "order": {"kind": "expire", "client": 3}, "stamp": 0})
@@ -150,12 +150,12 @@ def try_kills(options):
 
 
 def batches(options, journal):
-    """A journal of four batches, and where each of its gates stands."""
-    gates = [TITLE]
+    """A journal of four batches, and where each of its commit bytes stands."""
+    commits = [TITLE]
     for count in (1, 3, 2, 5):
         want("a batch", run(options, journal, FETCH * count)[0], CLOSED)
-        gates.append(journal.stat().st_size - 1)
-    return gates
+        commits.append(journal.stat().st_size - 1)
+    return commits
 
 
 def try_damage(options):
@@ -176,7 +176,7 @@ def try_damage(options):
             else:
                 refused += 1
                 want(f"a journal with byte {place} cut or changed", (number, said), (NO_JOURNAL, []))
-    # Only a gate that is shut ends a journal before its end.
+    # Only a commit byte that isn't set ends a journal before its end.
     want("journals that were opened", opened, 4)
     print(f"{2 * len(whole)} damaged journals: {opened} opened as a prefix, {refused} refused")
 

@@ -22,7 +22,7 @@ WORD = re.compile(r"[A-Za-z_]\w+")
 PATH = re.compile(r"[\w.*-]+(/[\w.*-]+)+/?|[\w-]*\*[\w*-]*|[\w*-]+\.(rt|antt|md|py|script|out|status|txt)")
 PLACEHOLDER = re.compile(r"\b([A-Z]+|[0-9a-f]{16})\b")
 # What stands elsewhere: on the command line of other programs, in the kit, and what `rt` prints.
-ELSEWHERE = set("EXEC LISTEN TCP reuseaddr nodelay perf tmp benchmark Lcg64Xsh32 Snapshot xor races grep rlw mget".split())
+ELSEWHERE = set("EXEC LISTEN TCP reuseaddr nodelay perf tmp benchmark Lcg64Xsh32 Snapshot xor races git grep lw mget".split())
 
 
 def all_paths():

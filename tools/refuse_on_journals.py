@@ -32,7 +32,7 @@ import shim  # noqa: E402
 PAGE = Path(__file__).resolve().parent.parent / "docs" / "TESTING.md"
 BEGINS, ENDS = "<!-- refused on journals: written by tools/refuse_on_journals.py -->", "<!-- end of refused on journals -->"
 HEADER = '{"clients":2,"f":1,"fast":true,"parts":1,"protocol":1,"sets":16,"ways":4}'
-TITLE = 36  # bytes of a journal before its first gate
+TITLE = 36  # bytes of a journal before its first commit byte
 NO_MEMORY = 6  # the number of a process that has no memory
 END = (1).to_bytes(4, "big") + b"\xff"  # no parcel: what is said of it stands behind what is said of its batch
 

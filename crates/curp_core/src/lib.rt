@@ -41,7 +41,7 @@
 //!
 //! | order | to | when |
 //! |---|---|---|
-//! | `Invoke` | a client | there is a command. Its number is `last()` then. Refused by 1 while 8 are pending |
+//! | `Invoke` | a client | there is a command. Its number is `last()` then. Refused by 1 while 8 are pending, by 2 where the client's numbers are at their end, by 3 where no one partition owns all keys |
 //! | `Retry` | a client | a request is pending for long, and each that is pending once a new configuration came |
 //! | `Fetch` | a client | retries don't help: the lists that it knows may be old |
 //! | `Sync` | a master | now and then, since what is answered at once goes to no backup until a round begins; and where a recovery or new lists stand still, since it sends again what they wait for |
@@ -85,8 +85,10 @@
 //!   node of a header), once; `Durable::open` gives a fresh node the inputs that stand there; `Durable::on_all` takes the
 //!   place of `on`, for as many inputs as there are at a time: they cost two syncs together. `on`, `on_message` and
 //!   `on_order` take one, and answer as a `Core`'s do, but that the disk may fail (`DurableError`). `node` lends the node.
-//!   After an error that leaves it `spent` the disk is taken out (`into_disk`) and opened again. Disks: `FileDisk` is a file
-//!   of the system; `MemoryDisk` and `StopDisk` are for tests, and tell their bytes, so that all clauses hold over them.
+//!   After an error that leaves it `spent` the disk is taken out (`into_disk`) and opened again. A `Checkpoint`
+//!   (`checkpoint`, with a copy of the node) lets it be opened from there on (`open_from`), while this process lives.
+//!   Disks: `FileDisk` is a file of the system; `MemoryDisk` and `StopDisk` are for tests, and tell their bytes, so that all
+//!   clauses hold over them.
 //! - `world`: all nodes of a header, every message that was ever sent, and one order of the requests, step by step: for
 //!   tests of yours that ask what the nodes do with a sequence of messages, losses and stops, as `curp play` does.
 #![tactic(auto)]
@@ -143,7 +145,8 @@ pub mod world {
 pub mod durable {
     pub use curp_disk::{Did, Disk, FileDisk, FileError, Long, MemoryDisk, StopDisk};
     pub use curp_durable::{
-        Answered, Durable, DurableError, FormatError, OpenError, OpenFailed, SIZE_LIMIT, format,
+        Answered, Checkpoint, Durable, DurableError, FormatError, OpenError, OpenFailed,
+        SIZE_LIMIT, format,
     };
     pub use curp_title::{Title, title_in, title_of};
 }
