@@ -1,9 +1,8 @@
 //! The nodes of a run together: every message that was ever sent, the history, the marks, and the steps of a script. It
 //! knows no law.
 //!
-//! - `Cluster::new`: exact, of a header whose numbers are in their ranges. `step`, clauses `state` and `outcome`: exact, of
-//!   any step. Clause `err`: out of memory nothing has changed. `config`, `message`, `sent`, `weight`,
-//!   `history`, `order`: exact.
+//! - `Cluster::new`: exact, of a header whose numbers are in their ranges. `step`: exact, of any step, and out of memory
+//!   nothing has changed (`MakesStep`). `config`, `message`, `sent`, `weight`, `history`, `order`: exact.
 #![tactic(auto)]
 
 mod cluster;

@@ -2,7 +2,8 @@
 //! kind are numbered from 1. And the fresh ones that come behind them.
 //!
 //! `manager`, `clients`, `masters`, `backups`, `witnesses`: exact. The world and the nodes on threads begin with them.
-//! `growing`: exact. But for `make_ahead`, which takes the memory of witnesses before they are named, it takes none.
+//! `growing`: exact. But for `make_ahead`, which makes fresh witnesses before they are named and takes memory for their list
+//! alone, it takes none.
 #![tactic(auto)]
 
 pub mod growing;

@@ -11,7 +11,7 @@
 //!
 //! `push_step_text`, `step_text`, `order_text`: exact, byte for byte.
 //!
-//! The text of a run, as a definition. There is no code here: the program writes it step by step, and worked examples are
+//! `specs/RunText.antt` has the text of a run, as a definition: the program writes it step by step, and worked examples are
 //! computed on it.
 #![tactic(auto)]
 

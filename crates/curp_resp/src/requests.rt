@@ -23,7 +23,7 @@ pub enum NextRequest {
     End,
     /// The source failed.
     ReadFault,
-    /// The byte at this place, from 0, is the first that no spelling of a request allows, or the input ends inside a
+    /// The byte at this place, from 0, is the first that no encoding of a request allows, or the input ends inside a
     /// request and has so many bytes. A place past the end of a `u64` is told as that end.
     BadRequest { at: u64 },
 }

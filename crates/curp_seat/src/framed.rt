@@ -20,7 +20,7 @@ enum Carried {
     Whole(Message),
 }
 
-/// A message with its name on its way between two seats. Contracts see what was sealed. A light message crosses as the
+/// A message with its name on its way between two nodes. Contracts see the message. A light message crosses as the
 /// frame that was written of it, and is decoded by its receiver.
 #[derive(Drop)]
 pub struct Framed {
