@@ -6,7 +6,7 @@
 CURP and CURPD are the programs `curp` and `curpd`. A row is an input that can be made of any size: steps of one kind, a
 history, requests, a journal. Counted are the calls of the allocator, the bytes that it is asked for, and the calls of `read`
 and of `write`, as tools/shim.py counts them. At eight times the size each may be nine times as much. Of the allocator's
-calls and bytes a row may have a tenth more than the table of docs/TESTING.md tells, so a run that takes several times what
+calls and bytes a row may have half a percent more than the table of docs/TESTING.md tells, so a run that takes several times what
 it needs at each size is told too.
 
 --short takes few rows. --write writes the table, and compares nothing with what it told before. The status is 1 where a row
@@ -34,9 +34,10 @@ EXPIRE = b'{"client":1,"do":"expire"}\n'
 CRASH = b'{"call":1,"do":"crash","kept":false}\n'
 TIMES, MOST = 8, 9.0
 # How many times as much as the page tells a row may have, but for runs on threads, no two of which are the same.
-MOST_OF_TOLD, VARYING = 1.1, "`live`, a step"
+MOST_OF_TOLD, VARYING = 1.005, "`live`, a step"
 COUNTED = ("calls", "bytes", "reads", "writes")
-SHORT = ["puts", "one message again and again", "migrations", "`resp`", "`resp --every 20`, by the entries that are recovered"]
+SHORT = ["puts", "one message again and again", "migrations", "a package of half of so many keys, by itself", "`resp`"]
+SHORT += ["`resp --every 20`, by the entries that are recovered"]
 SHORT += ["`manage`, crashes behind each order", "a journal that is opened"]
 
 
@@ -242,6 +243,18 @@ def recovery(curp, size):
     return script.text()
 
 
+def package(curp, size, moves):
+    """So many keys of two partitions, of which the first then gives all of its own to the second, if it moves them."""
+    script = Script(curp, fast=False, parts=2)
+    for number in range(size):
+        script.invoke(1, "put", f"{number:08x}", "31")
+        script.carry()
+    if moves:
+        script.has_done("migrate", lo="0" * 16, hi="7" + "f" * 15, to=2)
+        script.carry()
+    return script.text()
+
+
 def given(program, words):
     """What a program writes."""
     return subprocess.run([program, *words], capture_output=True, check=True).stdout
@@ -321,6 +334,11 @@ class Bench:
         """A row: a script is played."""
         return lambda size: self.counted([self.curp, "play"], script(self.curp, size, *more))
 
+    def moved(self, size):
+        """A row: a package, beside the keys that were put before."""
+        before, behind = (self.counted([self.curp, "play"], package(self.curp, size, moves)) for moves in (False, True))
+        return shim.Counts(*(max(more - less, 0) for less, more in zip(before, behind)))
+
     def told(self, text, *words):
         """A row: a text is given to a word."""
         return lambda size: self.counted([self.curp, *words], text(size))
@@ -383,6 +401,7 @@ def rows_of(bench):
         "replacements of a backup": (100, play(lambda *it: done_orders(*it, "replace", kind="backup", part=1, place=1))),
         "replacements of a witness": (100, play(lambda *it: done_orders(*it, "replace", kind="witness", part=1, place=1))),
         "migrations": (100, play(migrations)),
+        "a package of half of so many keys, by itself": (250, bench.moved),
         "nudges": (500, play(nudges)),
         "expiries": (500, play(lambda *it: done_orders(*it, "expire", client=1))),
         "stops": (500, play(stops)),
