@@ -1,10 +1,10 @@
 #!/usr/bin/env python3
-"""Measures the program, and writes docs/PERFORMANCE.md with its plots, docs/pictures/performance-*.svg.
+"""Measures the program, and writes docs/PERFORMANCE.md with its plots, docs/pictures/performance-*.svg, and a line of README.md.
 
     tools/measure.py CURP       CURP is the program, as `rt run` in crates/curp leaves it in crates/curp/out/curp
 
 Times are seconds of the processor for the whole process, the least of three runs; memory is the most that the process
-had, and 16 MB at least, which this program has itself. They are of the machine that runs this. Counts (of round trips, of records) are
+had, and 19 MB at least, which this program has itself. They are of the machine that runs this. Counts (of round trips, of records) are
 the same on every machine.
 """
 
@@ -19,13 +19,18 @@ from html import escape
 from math import exp, floor, log10
 from pathlib import Path
 
+sys.dont_write_bytecode = True
+sys.path.insert(0, str(Path(__file__).resolve().parent))
+import growth  # noqa: E402
+
 TOP = Path(__file__).resolve().parent.parent
 PAGE = TOP / "docs" / "PERFORMANCE.md"
 PICTURES = TOP / "docs" / "pictures"
+README = TOP / "README.md"
+RATE, RATE_ENDS = "<!-- rate of nodes: written by tools/measure.py -->", "<!-- end of the rate -->"
 COLOURS = ["#1a5fb4", "#b03030", "#2e7d32", "#8e44ad", "#c77700"]
-# Measured before logs were packed and commands kept once, by steps and by updates in the log: seconds, and MB.
-BEFORE = {1000: (0.01, 16), 5000: (0.02, 16), 20000: (0.09, 52), 50000: (0.24, 149), 100000: (0.45, 304), 200000: (0.76, 644)}
-RECOVERED_BEFORE = {1000: (0.001, 16), 4000: (0.015, 55), 16000: (0.080, 216), 36000: (0.115, 481)}
+# Seconds below which a time isn't told apart from the noise of a run.
+NOISE = 0.02
 
 
 # ---- running the program
@@ -76,6 +81,19 @@ def behind_threads(curp, words):
     if child.wait():
         sys.exit(f"{curp} {' '.join(words)} ended with {child.returncode}")
     return time.monotonic() - begun, (last - (alone or last)) / 1e9
+
+
+def file_of(text):
+    """A file with these bytes."""
+    script = tempfile.TemporaryFile("w+b")
+    script.write(text)
+    script.flush()
+    return script
+
+
+def seconds(took):
+    """A time, where it is more than noise."""
+    return f"{took:.2f}" if took >= NOISE else f"below {NOISE}"
 
 
 def script_of(lines):
@@ -291,17 +309,14 @@ def plan_part(curp):
     recoveries = by_plan(curp, "recoveries", [3, 56], 200000)
     wide = by_plan(curp, "parts", [8], 200000, clients=64)
     head = ["messages", "seconds", "memory"]
-    show = lambda rows: [(value, messages, f"{took:.2f}", size(memory)) for value, messages, took, memory in rows]
-    beside = [(*row, f"{BEFORE[row[0]][0]:.2f}", f"{BEFORE[row[0]][1]} MB") for row in show(steps)]
-    before = lambda which: ("before", [(count, told[which]) for count, told in BEFORE.items()])
+    show = lambda rows: [(value, messages, seconds(took), size(memory)) for value, messages, took, memory in rows]
     return [
         "## Playing a made script",
         "Scripts of `curp make` with its own numbers but for the one that a table names; `curp play` reads each and "
-        "writes its text. Before: in November 2026, when each log, message, mark and event had commands of its own and no "
-        "log was packed: one run by the clock, on another day of such a machine.",
-        table(["`--steps`", *head, "seconds before", "memory before"], beside),
-        plot("steps", "Time of a made script", "steps", "seconds", [("play", [(row[0], row[2]) for row in steps]), before(0)]),
-        plot("memory", "Memory of a made script", "steps", "MB", [("play", [(row[0], row[3] / 1e6) for row in steps]), before(1)]),
+        "writes its text.",
+        table(["`--steps`", *head], show(steps)),
+        plot("steps", "Time of a made script", "steps", "seconds", [("play", [(row[0], row[2]) for row in steps])]),
+        plot("memory", "Memory of a made script", "steps", "MB", [("play", [(row[0], row[3] / 1e6) for row in steps])]),
         "With 20,000 steps, by partitions and by backups:",
         table(["`--parts`", *head], show(parts)),
         table(["`--f`", *head], show(copies)),
@@ -311,22 +326,48 @@ def plan_part(curp):
     ]
 
 
+def write_rate(updates, ahead, took):
+    """Writes the rate of the nodes themselves to the front page."""
+    before, begins, rest = README.read_text(encoding="utf-8").partition(RATE)
+    _, ends, behind = rest.partition(RATE_ENDS)
+    if not ends:
+        sys.exit(f"{README} has no place for the rate of nodes")
+    told = f"In one process {updates:,} puts with all their messages take {ahead} s, and a recovery of them {took} s "
+    told += "([docs/PERFORMANCE.md](docs/PERFORMANCE.md))."
+    README.write_text(f"{before}{begins}\n{told}\n{ends}{behind}", encoding="utf-8")
+
+
 def recovery_part(curp):
     rows = [recovery(curp, updates) for updates in (1000, 4000, 16000, 36000)]
-    told = [
-        (n, f"{before:.2f}", f"{took:.3f}", size(memory), f"{RECOVERED_BEFORE[n][0]:.3f}", f"{RECOVERED_BEFORE[n][1]} MB")
-        for n, before, took, memory in rows
-    ]
+    told = [(n, seconds(before), seconds(took), size(memory)) for n, before, took, memory in rows]
+    write_rate(*told[-1][:3])
     return [
         "## A recovery",
         "One client that isn't fast puts so many keys, each on the backup before the next; then the master is recovered. "
-        "The time of the recovery is that of its 11 steps: the difference of two times, so a few hundredths of a second "
-        "are noise, and one below 0 is told as 0. It grows with the log, which the backup sends whole and the fresh backup "
-        "gets whole, and which the fresh master executes once.",
-        table(
-            ["updates in the log", "seconds ahead of it", "seconds of the recovery", "memory", "of the recovery before", "memory before"],
-            told,
-        ),
+        "The time of the recovery is that of its 11 steps: the difference of two times. It grows with the log, which the "
+        "backup sends whole and the fresh backup gets whole, and which the fresh master executes once.",
+        table(["updates in the log", "seconds ahead of it", "seconds of the recovery", "memory"], told),
+    ]
+
+
+def families_part(curp):
+    """Steps that once cost the whole run so far."""
+    counts = [2000, 4000, 8000]
+    replaced = lambda *it: growth.done_orders(*it, "replace", kind="backup", part=1, place=1)
+    crashed = lambda _, size: growth.manager_orders(size, growth.CRASH + growth.EXPIRE)
+    families = [
+        ("replacements of a backup", "play", replaced),
+        ("migrations of ever other ranges", "play", growth.migrations),
+        ("reads that wait for one round", "play", growth.waiting_reads),
+        ("`manage`, crashes behind each order", "manage", crashed),
+    ]
+    took = {name: [timed(curp, [word], file_of(made(curp, n)))[0] for n in counts] for name, word, made in families}
+    return [
+        "## Many of one kind",
+        "So many of one kind in a script, each carried out before the next. Each costs what it sends, and a logarithm of "
+        "what came before, which `tools/growth.py` counts.",
+        table(["", *(f"{n:,}, seconds" for n in counts)], [(name, *(seconds(it) for it in took[name])) for name in took]),
+        plot("families", "Many of one kind", "how many", "seconds", [(name.replace("`", ""), list(zip(counts, took[name]))) for name in took]),
     ]
 
 
@@ -424,7 +465,7 @@ def live_part(curp):
             rows.append((recoveries, processors, f"{whole[0]:.2f}", f"{whole[4]:.2f}", rate, f"{behind[0]:.2f}", f"{behind[4]:.2f}"))
     return [
         "## Nodes on threads",
-        f"`curp {' '.join(words)}`: 1,600 commands, about 25,000 steps and 133 threads. Behind the run is one thread: it "
+        f"`curp {' '.join(words)}`: 1,600 commands, about 25,000 steps and 91 threads, with three recoveries 133. Behind the run is one thread: it "
         "gives the inputs of all journals to nodes made anew, compares, gathers, prints, and plays the script. The seconds of "
         "the whole are by the clock, those of this thread are of the processor; the least and the median of nine runs.",
         table(["recoveries", "processors", "least", "median", "commands a second", "behind the run, least", "median"], rows),
@@ -456,9 +497,9 @@ def main():
         "# Measured",
         "What the program costs, and how often an update takes one round trip. `tools/measure.py crates/curp/out/curp` "
         "makes this page and its pictures, but for its last two sections; the times are the least of three runs on one machine, and the counts are the same on every "
-        "machine. Memory below 17 MB isn't told apart, nor below 36 MB where recoveries are measured.",
+        "machine. Memory below 19 MB isn't told apart, nor below 38 MB where recoveries are measured.",
     ]
-    parts += plan_part(curp) + beside_part(curp) + recovery_part(curp) + round_trip_part(curp) + full_set_part(curp) + frame_part() + live_part(curp)
+    parts += plan_part(curp) + beside_part(curp) + recovery_part(curp) + families_part(curp) + round_trip_part(curp) + full_set_part(curp) + frame_part() + live_part(curp)
     # These parts of the page are written by tools/measure_curpd.py and cluster/figures.
     kept = PAGE.read_text(encoding="utf-8").partition("\n## Nodes as processes\n")
     PAGE.write_text("\n\n".join(parts) + "\n" + "".join(kept[1:]), encoding="utf-8")
