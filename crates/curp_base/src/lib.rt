@@ -15,6 +15,7 @@
 
 mod ascending;
 mod boxed;
+mod failed;
 mod items;
 mod reserved;
 mod reserved_pairs;
@@ -22,6 +23,7 @@ mod shared;
 
 pub use ascending::{AscendingKeys, AscendingPairs, keys_ascend, pairs_ascend};
 pub use boxed::Boxed;
+pub use failed::Failed;
 pub use items::{Items, TryCopy, copies_of, past};
 pub use reserved::{Reserved, make_room};
 pub use reserved_pairs::ReservedPairs;
