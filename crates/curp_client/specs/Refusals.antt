@@ -32,5 +32,5 @@ TellsRetry refused (Err why) = refused ≡ retry_number why
 
 -- a refusal is told by its number, which isn't 0; without one, memory was wanting
 abbrev pub TellsRefusal : ℕ → Result Done AllocError → Type 0
-TellsRefusal refusal (Ok done) = (refusal ≢ 0) × (done ≡ record { refused = refusal; sent = []; completed = None })
+TellsRefusal refusal (Ok done) = (refusal ≢ 0) × (done ≡ record { refused = refusal; sent = []; invoked = None; completed = None })
 TellsRefusal refusal (Err no_memory) = refusal ≡ 0

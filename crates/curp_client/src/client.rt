@@ -141,10 +141,11 @@ impl Client {
             &shared,
             part,
         )?;
+        let invoked = shared.share()?;
         let pending = Pending::first_sent(self.alloc, shared, part)?;
         self.pending.push(pending)?;
         self.last = request.id.seq;
-        Ok(Done::sends(messages))
+        Ok(Done::invokes(invoked, messages))
     }
 
     /// Sends a pending request again, by its number.

@@ -18,7 +18,7 @@ use Rattle.curp_model.specs.Witness.{WitnessState, fresh_witness, witness_input}
 use Rattle.curp_model.specs.World.{World, grown, has_node, is_there, moves, moves_kind, with_backup, with_client, with_master, with_witness}
 use Rattle.curp_msg.specs.Moved.{Moves, MovesAt, Node, numbered_move, within}
 use Rattle.curp_msg.specs.declared.machine.Done.{Done}
-use Rattle.curp_msg.specs.declared.machine.Input.{Input}
+use Rattle.curp_msg.specs.Input.{Input}
 use Rattle.curp_opening.specs.Nodes.{HasNumbers, states}
 use Rattle.curp_cluster.specs.Nodes.{AreNumbered, NodeStates, most_fresh, nodes_of, with_nodes}
 use Rattle.curp_cluster.specs.Marks.{IsFewOf, master_at, most_marks}

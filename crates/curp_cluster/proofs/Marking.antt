@@ -20,8 +20,8 @@ use Rattle.curp_model.specs.World.{World, glance_in, is_adopted, marks_adopted, 
 use Rattle.curp_msg.specs.Moved.{within}
 use Rattle.curp_msg.specs.declared.body.Body.{Body}
 use Rattle.curp_msg.specs.declared.body.Body.TheVariants as body
-use Rattle.curp_msg.specs.declared.machine.Input.{Input}
-use Rattle.curp_msg.specs.declared.machine.Input.TheVariants as input
+use Rattle.curp_msg.specs.Input.{Input}
+use Rattle.curp_msg.specs.Input as input
 use Rattle.curp_cluster.specs.Marks.{CapturesOne, HasRoomFor, HasRoomSince, IsFew, IsFewOf, IsLastNew, IsLastNewIfAny, IsSound, Nothing, answered, due_by_kind, due_if, due_marks, due_of_adoption, due_of_master, due_of_recovery, due_of_replay, due_to_master, former, glanced, glanced_in, has_answered, is_captured_behind, marks_behind, marks_by, marks_since, master_at, most_due, most_marks, with_answered}
 use Rattle.curp_cluster.specs.declared.marks.Former.{Former}
 use Rattle.curp_cluster.specs.Nodes.{NodeStates, nodes_of, with_nodes}

@@ -4,15 +4,18 @@ ghost use Rattle.curp_base.specs.Words.{all_of, numbered};
 ghost use Rattle.curp_msg.specs.Script.{IsHeader};
 ghost use Rattle.curp_model.specs.World as world;
 ghost use Rattle.curp_order.specs.Recorded.{invocation};
-ghost use Rattle.curp_cluster.specs.Given.{CanGet, MakesStep, barrier, expires_nobody, hands, input_in, input_of};
+ghost use Rattle.curp_cluster.specs.Given.{CanGet, MakesStep, barrier, expires_nobody, hands, input_in};
+ghost use Rattle.curp_msg.specs.Input.{input_of};
 
-use crate::given::{Gift, Given};
+use crate::given::Gift;
 use crate::marks::{Due, flag};
 use crate::nodes::Nodes;
-use curp_base::NoMemory;
-use curp_cmd::{Answer, KeptCommand, NodeId, RequestId, Standby};
+use curp_base::{NoMemory, Shared};
+use curp_cmd::{Answer, KeptCommand, NodeId, Request, RequestId, Standby};
 use curp_line::Line;
-use curp_msg::{Config, Done, Header, Local, Message, Outcome, Step, StepResult, WEIGHT_LIMIT};
+use curp_msg::{
+    Config, Done, Header, Input, Local, Message, Outcome, Step, StepResult, WEIGHT_LIMIT,
+};
 use curp_nodes::ClientNode;
 use curp_order::History;
 use curp_sent::{MessagePlace, SentMessages, Stopped, answered, order_of};
@@ -27,9 +30,8 @@ pub struct Cluster {
     sent: SentMessages,
     history: History,
     marks: Line,
-    // Places for the commands that a step marks, and for the one that it invokes.
+    // Places for the commands that a step marks.
     marking: Standby,
-    invoking: Standby,
 }
 
 impl Drop for Cluster {
@@ -42,7 +44,6 @@ impl Drop for Cluster {
             history: _,
             marks: _,
             marking: _,
-            invoking: _,
         } = self;
     }
 }
@@ -70,7 +71,6 @@ impl Cluster {
             history: History::new(alloc),
             marks: Line::new(alloc),
             marking: Standby::new(alloc),
-            invoking: Standby::new(alloc),
         })
     }
 
@@ -198,20 +198,18 @@ impl Cluster {
         self.sent.reserve()?;
         self.history.reserve(2)?;
         let given = given_of(&self.sent, gift);
-        let due = Due::of(self.alloc, &self.nodes, to, &given)?;
-        let most = due.most(&given);
+        let due = Due::of(self.alloc, &self.nodes, to, given)?;
+        let most = due.most(given);
         self.marks.reserve(most)?;
         self.marking.reserve(most)?;
-        self.invoking.reserve(1)?;
-        let done = self.nodes.give(to, &given)?;
+        let done = self.nodes.give(to, given)?;
         if done.refused != 0 {
             let number = done.refused;
             return Ok(self.silent(StepResult::Refused { number }));
         }
         due.mark(&mut self.marks, &mut self.marking, to, &self.nodes);
         flag(&mut self.marks, done.completed);
-        let invoked = self.nodes.invoked(&mut self.invoking, to, gift);
-        Ok(keep(&mut self.sent, &mut self.history, invoked, done))
+        Ok(keep(&mut self.sent, &mut self.history, gift, done))
     }
 
     // Why the node of that name gets nothing, whatever it is: it isn't there, it is stopped, or all messages weigh too
@@ -269,26 +267,21 @@ impl Cluster {
 }
 
 // What a node is given, by what it is to get.
-fn given_of<'a>(sent: &'a SentMessages, gift: &'a Gift) -> Given<'a>
+fn given_of<'a>(sent: &'a SentMessages, gift: &'a Gift) -> Input<'a>
     requires { IsSome (input_in (all_of sent.now.lists) gift.now) }
     ensures { input_in (all_of sent.now.lists) gift.now ≡ Some (input_of result) }
 {
     match gift {
-        Gift::Order(order) => Given::Order(order),
+        Gift::Order(order) => Input::Local(order),
         Gift::Message(place) => match sent.get_at(place) {
-            Some(message) => Given::Message(message),
+            Some(message) => Input::Message(message),
             None => unreachable!(),
         },
     }
 }
 
 // What a node did on an input is kept, behind an invocation where it was one.
-fn keep(
-    sent: &mut SentMessages,
-    history: &mut History,
-    invoked: Option<(RequestId, KeptCommand)>,
-    done: Done,
-) -> Outcome
+fn keep(sent: &mut SentMessages, history: &mut History, gift: &Gift, done: Done) -> Outcome
     requires sent { 1 ≤ sent.old.spare }
     requires history { 2 ≤ history.old.spare }
     ensures sent { sent.new.lists ≡ world.with_batch sent.old.lists done.sent }
@@ -308,6 +301,11 @@ fn keep(
         completed: done.completed,
     };
     sent.push(done.sent);
+    // Only an order to invoke invokes.
+    let invoked = match gift {
+        Gift::Order(Local::Invoke(_)) => done.invoked.map(|r| (r.id, KeptCommand::of(r))),
+        _ => None,
+    };
     history.record(invoked, done.completed.map(|c| (c.id, c.answer)));
     outcome
 }

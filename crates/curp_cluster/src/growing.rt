@@ -1,11 +1,10 @@
 // The fresh nodes that the manager names.
 ghost use Rattle.std.specs.Prelude.{◌≡◌};
-ghost use Rattle.curp_cluster.specs.Given.{input_of};
+ghost use Rattle.curp_msg.specs.Input.{input_of};
 ghost use Rattle.curp_cluster.specs.Nodes.{most_fresh};
 
-use crate::given::Given;
 use curp_cmd::Keeper;
-use curp_msg::Local;
+use curp_msg::{Input, Local};
 
 /// So many nodes of each kind.
 #[derive(Clone, Copy)]
@@ -17,20 +16,20 @@ pub(crate) struct Counts {
 
 /// So many fresh nodes an input lets the manager name at most, where a partition has so many backups and as many
 /// witnesses.
-pub(crate) fn most_fresh(keepers: u32, given: &Given) -> Counts
-    ensures masters { result.masters ≡ (most_fresh keepers (input_of given.now)).masters }
-    ensures backups { result.backups ≡ (most_fresh keepers (input_of given.now)).backups }
-    ensures witnesses { result.witnesses ≡ (most_fresh keepers (input_of given.now)).witnesses }
+pub(crate) fn most_fresh(keepers: u32, input: Input) -> Counts
+    ensures masters { result.masters ≡ (most_fresh keepers (input_of input.entry)).masters }
+    ensures backups { result.backups ≡ (most_fresh keepers (input_of input.entry)).backups }
+    ensures witnesses { result.witnesses ≡ (most_fresh keepers (input_of input.entry)).witnesses }
 {
-    let (masters, backups, witnesses) = match given {
-        Given::Order(Local::Recover { .. }) => (1, keepers, keepers),
-        Given::Order(
+    let (masters, backups, witnesses) = match input {
+        Input::Local(Local::Recover { .. }) => (1, keepers, keepers),
+        Input::Local(
             Local::Replace {
                 keeper: Keeper::Backup,
                 ..
             },
         ) => (0, 1, 0),
-        Given::Order(
+        Input::Local(
             Local::Replace {
                 keeper: Keeper::Witness,
                 ..

@@ -8,19 +8,18 @@ ghost use Rattle.curp_entries.specs.Requests.{request_at};
 ghost use Rattle.curp_model.specs.Manager.{adopted_by};
 ghost use Rattle.curp_model.specs.Master.{Captured as CapturedRead};
 ghost use Rattle.curp_model.specs.World.{capture_mark, op_marks, op_requests, with_completion};
-ghost use Rattle.curp_cluster.specs.Given.{input_of};
+ghost use Rattle.curp_msg.specs.Input.{input_of};
 ghost use Rattle.curp_cluster.specs.Marks as spec;
 ghost use Rattle.curp_cluster.specs.Marks.{HasRoomFor, HasRoomSince, IsSound, answered, due_marks, due_to_master, has_answered};
 ghost use Rattle.curp_cluster.specs.Marks.{is_captured_behind, marks_behind, marks_by, marks_of_serving, master_at, most_due, told_due, told_op};
 
-use crate::given::Given;
 use crate::nodes::Nodes;
 use curp_base::{NoMemory, Shared};
 use curp_cmd::{Entry, KeptCommand, NodeId, NodeKind, Request, RequestId, Standby};
 use curp_line::{Line, Term};
 use curp_log::Log;
 use curp_master::{Captured, Master};
-use curp_msg::{Body, Completed, Config, GcAnswer, Message};
+use curp_msg::{Body, Completed, Config, GcAnswer, Input, Message};
 use curp_nodes::MasterNode;
 use std::alloc::Global;
 
@@ -53,13 +52,13 @@ pub(crate) enum Due {
 }
 
 // What a master does from now on that is to be marked.
-fn due_of_master(nodes: &Nodes, to: NodeId, given: &Given) -> Result<Due, NoMemory>
+fn due_of_master(nodes: &Nodes, to: NodeId, input: Input) -> Result<Due, NoMemory>
     requires { to.kind ≡ NodeKind.Master }
-    ensures value { IfOk result (λ due. told_due due ≡ due_to_master nodes.now to (input_of given.now)) }
+    ensures value { IfOk result (λ due. told_due due ≡ due_to_master nodes.now to (input_of input.entry)) }
     ensures sound { IfOk result (λ due. IsSound (told_due due) (numbered nodes.now.masters to.number)) }
 {
     let adopted = is_adopted(nodes.manager().config(), to);
-    let glanced = glanced(given)?;
+    let glanced = glanced(input)?;
     if !adopted && glanced.is_none() {
         return Ok(Due::Nothing);
     }
@@ -76,12 +75,12 @@ fn due_of_master(nodes: &Nodes, to: NodeId, given: &Given) -> Result<Due, NoMemo
 }
 
 // The read that an input asks for an answer at once.
-fn glanced(given: &Given) -> Result<Option<Shared<Request>>, NoMemory>
-    ensures { IfOk result (λ read. read ≡ spec.glanced (input_of given.now)) }
+fn glanced(input: Input) -> Result<Option<Shared<Request>>, NoMemory>
+    ensures { IfOk result (λ read. read ≡ spec.glanced (input_of input.entry)) }
 {
-    match given {
-        Given::Message(message) => glanced_in(&message.body),
-        Given::Order(_) => Ok(None),
+    match input {
+        Input::Message(message) => glanced_in(&message.body),
+        Input::Local(_) => Ok(None),
     }
 }
 
@@ -129,28 +128,28 @@ impl Due {
         alloc: Global,
         nodes: &Nodes,
         to: NodeId,
-        given: &Given,
+        input: Input,
     ) -> Result<Due, NoMemory>
-        ensures value { IfOk result (λ due. told_due due ≡ due_marks nodes.now to (input_of given.now)) }
+        ensures value { IfOk result (λ due. told_due due ≡ due_marks nodes.now to (input_of input.entry)) }
         ensures sound { IfOk result (λ due. IsSound (told_due due) (master_at to.kind to.number nodes.now.masters)) }
     {
         match to.kind {
-            NodeKind::Master => due_of_master(nodes, to, given),
-            NodeKind::Manager => match given {
-                Given::Message(message) => due_of_adoption(alloc, nodes, message),
-                Given::Order(_) => Ok(Due::Nothing),
+            NodeKind::Master => due_of_master(nodes, to, input),
+            NodeKind::Manager => match input {
+                Input::Message(message) => due_of_adoption(alloc, nodes, message),
+                Input::Local(_) => Ok(Due::Nothing),
             },
             _ => Ok(Due::Nothing),
         }
     }
 
     /// So many marks come of it at most.
-    pub(crate) fn most(&self, given: &Given) -> u64
-        ensures { result ≡ most_due (told_due self.now) (spec.most_marks (input_of given.now)) }
+    pub(crate) fn most(&self, input: Input) -> u64
+        ensures { result ≡ most_due (told_due self.now) (spec.most_marks (input_of input.entry)) }
     {
         match self {
             Due::Nothing => 0,
-            Due::Since(_) => most_marks(given),
+            Due::Since(_) => most_marks(input),
             // One is that of the adoption itself.
             Due::Adoption(adoption) => 1 + adoption.replayed.len() as u64,
         }
@@ -231,12 +230,12 @@ pub(crate) fn flag(marks: &mut Line, completed: Option<Completed>)
 }
 
 // So many marks come of an input to a master at most.
-fn most_marks(given: &Given) -> u64
-    ensures { result ≡ spec.most_marks (input_of given.now) }
+fn most_marks(input: Input) -> u64
+    ensures { result ≡ spec.most_marks (input_of input.entry) }
 {
-    match given {
-        Given::Message(message) => most_by_message(&message.body),
-        Given::Order(_) => 0,
+    match input {
+        Input::Message(message) => most_by_message(&message.body),
+        Input::Local(_) => 0,
     }
 }
 

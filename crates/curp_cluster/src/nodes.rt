@@ -6,18 +6,17 @@ ghost use Rattle.curp_msg.specs.Script.{IsHeader};
 ghost use Rattle.curp_model.specs.World as world;
 ghost use Rattle.curp_model.specs.World.{World, has_node};
 ghost use Rattle.curp_msg.specs.Moved.{Moves, within};
-ghost use Rattle.curp_cluster.specs.Given.{input_of, invoked_by};
+ghost use Rattle.curp_msg.specs.Input.{input_of};
 ghost use Rattle.curp_cluster.specs.Marks.{IsFewOf, master_at, most_marks};
 ghost use Rattle.curp_cluster.specs.Nodes.{nodes_of, with_nodes};
 
-use crate::given::{Gift, Given, give, give_one};
+use crate::given::{give, give_one};
 use crate::growing::most_fresh;
-use curp_base::{NoMemory, Shared};
-use curp_cmd::{Command, KeptCommand, NodeId, NodeKind, Request, RequestId, Standby};
-use curp_msg::{Done, Header, Local};
+use curp_base::NoMemory;
+use curp_cmd::{NodeId, NodeKind};
+use curp_msg::{Done, Header, Input};
 use curp_nodes::{BackupNode, ClientNode, ManagerNode, MasterNode, WitnessNode};
 use curp_opening::growing::{add_backups, add_masters, make_ahead, take_up};
-use curp_same::Same;
 use std::alloc::Global;
 use std::marker::Model;
 
@@ -124,31 +123,31 @@ impl Nodes {
     /// The node of that name, which is there, gets an input, and moves as in a world of these nodes; where it is the
     /// manager, the fresh nodes that it names are there from then on. Of what a master pushes and captures no more than
     /// the bound of the input is new.
-    pub(crate) fn give(&mut self, to: NodeId, given: &Given) -> Result<Done, NoMemory>
+    pub(crate) fn give(&mut self, to: NodeId, input: Input) -> Result<Done, NoMemory>
         requires there { (w : World) × (has_node (with_nodes w self.old) to ≡ true) }
         ensures moves { (w : World) → Moves self.old self.new result
-            (within nodes_of (world.moves (with_nodes w self.old) to (input_of given.now))) }
+            (within nodes_of (world.moves (with_nodes w self.old) to (input_of input.entry))) }
         ensures few { IsFewOf (master_at to.kind to.number self.old.masters)
-            (master_at to.kind to.number self.new.masters) (most_marks (input_of given.now)) }
+            (master_at to.kind to.number self.new.masters) (most_marks (input_of input.entry)) }
         ensures refused { IfOk result (λ done. done.refused ≢ 0 → self.new ≡ self.old) }
     {
         match to.kind {
-            NodeKind::Client => give(&mut self.clients, to.number, given),
-            NodeKind::Master => give(&mut self.masters, to.number, given),
-            NodeKind::Backup => give(&mut self.backups, to.number, given),
-            NodeKind::Witness => give(&mut self.witnesses, to.number, given),
-            NodeKind::Manager => self.give_manager(given),
+            NodeKind::Client => give(&mut self.clients, to.number, input),
+            NodeKind::Master => give(&mut self.masters, to.number, input),
+            NodeKind::Backup => give(&mut self.backups, to.number, input),
+            NodeKind::Witness => give(&mut self.witnesses, to.number, input),
+            NodeKind::Manager => self.give_manager(input),
         }
     }
 
     // The manager gets an input. The memory of what it may name is found before, so that it moves only where that is
     // there; a witness that it doesn't name waits for the next order.
-    fn give_manager(&mut self, given: &Given) -> Result<Done, NoMemory>
+    fn give_manager(&mut self, input: Input) -> Result<Done, NoMemory>
         ensures moves { (w : World) → Moves self.old self.new result
-            (within nodes_of (world.moves (with_nodes w self.old) manager_node (input_of given.now))) }
+            (within nodes_of (world.moves (with_nodes w self.old) manager_node (input_of input.entry))) }
         ensures refused { IfOk result (λ done. done.refused ≢ 0 → self.new ≡ self.old) }
     {
-        let most = most_fresh(self.manager.keepers(), given);
+        let most = most_fresh(self.manager.keepers(), input);
         self.masters.reserve(most.masters as usize)?;
         self.backups.reserve(most.backups as usize)?;
         self.witnesses.reserve(most.witnesses as usize)?;
@@ -163,7 +162,7 @@ impl Nodes {
             self.sets,
             self.ways,
         )?;
-        let done = give_one(&mut self.manager, given)?;
+        let done = give_one(&mut self.manager, input)?;
         add_masters(self.alloc, &mut self.masters, self.manager.next_master());
         add_backups(self.alloc, &mut self.backups, self.manager.next_backup());
         take_up(
@@ -172,42 +171,6 @@ impl Nodes {
             self.manager.next_witness(),
         );
         Ok(done)
-    }
-
-    /// What a client has invoked, if it got the order: the request that is its last one now. It takes no memory.
-    pub(crate) fn invoked(
-        &self,
-        standby: &mut Standby,
-        to: NodeId,
-        gift: &Gift,
-    ) -> Option<(RequestId, KeptCommand)>
-        requires { 1 ≤ standby.old }
-        ensures { result ≡ invoked_by to gift.now (numbered self.now.clients to.number) }
-    {
-        let Gift::Order(Local::Invoke(command)) = gift else {
-            return None;
-        };
-        let client = self.client(to.number)?;
-        let id = RequestId {
-            client: to.number,
-            seq: client.last(),
-        };
-        Some((id, kept_by(standby, client.newest(), command)))
-    }
-}
-
-// The command is kept where it stands with the client's newest request.
-fn kept_by(
-    standby: &mut Standby,
-    newest: Option<&Shared<Request>>,
-    command: &Command,
-) -> KeptCommand
-    requires { 1 ≤ standby.old }
-    ensures { result ≡ command.now }
-{
-    match newest {
-        Some(request) if request.command.same(command) => standby.keep(request),
-        _ => standby.keep_own(command),
     }
 }
 

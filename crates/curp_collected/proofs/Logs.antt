@@ -7,7 +7,7 @@ use Rattle.curp_base.proofs.Lists.{Each-append, Each-at, at_append_right}
 use Rattle.curp_cmd.specs.declared.node.NodeId.{NodeId}
 use Rattle.curp_cmd.specs.declared.node.NodeKind.{NodeKind}
 use Rattle.curp_msg.specs.Moved.{Moved, Node}
-use Rattle.curp_msg.specs.declared.machine.Input.{Input}
+use Rattle.curp_msg.specs.Input.{Input}
 use Rattle.curp_msg.specs.declared.script.Header.{Header}
 use Rattle.curp_journal.specs.Journal.{NodeJournal}
 use Rattle.curp_gather.specs.Journals.{Begins, NodesAscend}

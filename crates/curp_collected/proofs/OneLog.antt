@@ -4,7 +4,7 @@ use Rattle.std.proofs.Common.{inl, inr, sym, ◌∙◌, ap, subst, arith, cond, 
 use Rattle.std.proofs.lemmas.List.{length-take}
 use Rattle.curp_cmd.specs.declared.node.NodeId.{NodeId}
 use Rattle.curp_msg.specs.Moved.{Moved}
-use Rattle.curp_msg.specs.declared.machine.Input.{Input}
+use Rattle.curp_msg.specs.Input.{Input}
 use Rattle.curp_journal.specs.Journal.{NodeJournal, last_stamp, made}
 use Rattle.curp_journal.specs.Own.{IsArrivedMessage}
 use Rattle.curp_journal.specs.declared.arrived.Arrived.{Arrived}

@@ -7,7 +7,7 @@ use Rattle.curp_base.specs.Words.{At, Each}
 use Rattle.curp_base.proofs.Lists.{Each-append, at_push_cases, drop_at}
 use Rattle.curp_cmd.specs.declared.node.NodeId.{NodeId}
 use Rattle.curp_msg.specs.Moved.{Moved}
-use Rattle.curp_msg.specs.declared.machine.Input.{Input}
+use Rattle.curp_msg.specs.Input.{Input}
 use Rattle.curp_journal.specs.Given.{given}
 use Rattle.curp_journal.specs.Journal as journal
 use Rattle.curp_journal.specs.Journal.{NodeJournal, last_stamp, next_stamp}

@@ -53,7 +53,7 @@ not_heard g from _ fetch recovered prepared taken given = refl
 
 -- other messages change nothing
 pub left_alone : (g : ManagerState) (from : NodeId) (b : Body) (done : Done) → (b ≡ body.Fetch → ⊥) → ((r : Recovered) → b ≡ body.Recovered r → ⊥) → ((version : ℕ) → b ≡ body.Prepared version → ⊥)
-    → ((t : Parcel) → b ≡ body.Taken t → ⊥) → ((number : ℕ) → b ≡ body.Given number → ⊥) → done ≡ record { refused = 0; sent = []; completed = None } → Makes g done (on_manager g from b)
+    → ((t : Parcel) → b ≡ body.Taken t → ⊥) → ((number : ℕ) → b ≡ body.Given number → ⊥) → done ≡ record { refused = 0; sent = []; invoked = None; completed = None } → Makes g done (on_manager g from b)
 unfolding on_manager
 left_alone g from b done fetch recovered prepared taken given is =
     subst (λ (m : Moved ManagerState). Makes g done (unless_numbers_end g m)) (sym (not_heard g from b fetch recovered prepared taken given))

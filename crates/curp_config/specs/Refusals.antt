@@ -66,7 +66,7 @@ TellsExpire refused (Err why) = refused ≡ expire_number why
 
 -- a refusal is told by its number, which isn't 0; without one, memory was wanting
 abbrev pub TellsRefusal : ℕ → Result Done AllocError → Type 0
-TellsRefusal refusal (Ok done) = (refusal ≢ 0) × (done ≡ record { refused = refusal; sent = []; completed = None })
+TellsRefusal refusal (Ok done) = (refusal ≢ 0) × (done ≡ record { refused = refusal; sent = []; invoked = None; completed = None })
 TellsRefusal refusal (Err no_memory) = refusal ≡ 0
 
 -- ---- what a refusal tells beside its number

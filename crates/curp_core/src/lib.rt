@@ -3,10 +3,11 @@
 //!
 //! # A node
 //!
-//! A node is a `Core`: a machine without a network, a clock or a thread. It takes an `Input` by reference, which is a
-//! `Message` or an order (`Local`), and gives a `Done`. `on` takes either; `on_message` and `on_order` take one of them.
+//! A node is a `Core`: a machine without a network, a clock or a thread. It takes an `Input`, which is a reference to a
+//! `Message` or to an order (`Local`), and gives a `Done`. `on` takes either; `on_message` and `on_order` take one of them.
 //!
 //! - `sent`: the messages that go out now, each to its `to`. Any may be lost, late or repeated, and two may change places.
+//! - `invoked`: the request that an order to invoke made, with its id.
 //! - `completed`: the request that is done, with its answer. Only a client completes requests, at most one by an input.
 //! - `refused`: 0, or why an order wasn't taken: the node is as it was. A message is never refused. An order that isn't a
 //!   node's own does nothing.

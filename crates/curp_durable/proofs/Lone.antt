@@ -7,8 +7,8 @@ use Rattle.curp_journal.specs.Journal.{made, next_stamp}
 use Rattle.curp_journal.specs.declared.arrived.Arrived.{Arrived}
 use Rattle.curp_journal.specs.declared.arrived.Arrived.TheVariants as arrived
 use Rattle.curp_msg.specs.Moved.{Moved, Refuses, done_of}
-use Rattle.curp_msg.specs.declared.machine.Input.{Input}
-use Rattle.curp_msg.specs.declared.machine.Input.TheVariants as input
+use Rattle.curp_msg.specs.Input.{Input}
+use Rattle.curp_msg.specs.Input as input
 use Rattle.curp_msg.specs.declared.machine.Local.{Local}
 use Rattle.curp_msg.specs.declared.message.Message.{Message}
 use Rattle.curp_durable.specs.Lone.{done_by, done_in, refusal}

@@ -7,7 +7,7 @@ use Rattle.curp_batches.specs.Batches.{IsEncoding, batch_of}
 use Rattle.curp_base.specs.Words.{Each}
 use Rattle.curp_journal.specs.declared.arrived.Arrived.{Arrived}
 use Rattle.curp_msg.specs.Moved.{Moved}
-use Rattle.curp_msg.specs.declared.machine.Input.{Input}
+use Rattle.curp_msg.specs.Input.{Input}
 use Rattle.curp_durable.specs.Answering.{Decides, HaveNoEncoding, IsPiece, IsRecord, end_of, record_of}
 use Rattle.curp_durable.specs.Journal.{HasEncoding, behind_length, framed}
 use Rattle.curp_durable.specs.Standing.{Standing, answers_of, made_inputs, taken}

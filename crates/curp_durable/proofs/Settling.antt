@@ -6,7 +6,7 @@ use Rattle.curp_base.specs.Words.{all_of}
 use Rattle.curp_disk.specs.Disk.{LeavesOnly, Only, over}
 use Rattle.curp_journal.specs.declared.arrived.Arrived.{Arrived}
 use Rattle.curp_msg.specs.Moved.{Moved}
-use Rattle.curp_msg.specs.declared.machine.Input.{Input}
+use Rattle.curp_msg.specs.Input.{Input}
 use Rattle.curp_durable.specs.Appending.{ShutOrStaged}
 use Rattle.curp_durable.specs.Journal.{HasEncoding, HasSettled, HoldsJournal, HoldsUpTo, IsBeforeOrAfter, IsSettled, ReadsJournal, framed}
 use Rattle.curp_durable.specs.Opening.{IsOpened}

@@ -15,7 +15,7 @@ use Rattle.curp_disk.specs.declared.medium.Call.TheVariants as call
 use Rattle.curp_disk.proofs.Playing.{kept_now}
 use Rattle.curp_journal.specs.declared.arrived.Arrived.{Arrived}
 use Rattle.curp_msg.specs.Moved.{Moved}
-use Rattle.curp_msg.specs.declared.machine.Input.{Input}
+use Rattle.curp_msg.specs.Input.{Input}
 use Rattle.curp_durable.specs.Answering.{record_of}
 use Rattle.curp_durable.specs.Journal.{Batch, HasEncoding, HoldsUpTo, IsSettled, ReadsJournal, framed, records}
 use Rattle.curp_durable.specs.Opening.{LedTo, Walked}

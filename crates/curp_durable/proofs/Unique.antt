@@ -5,7 +5,7 @@ use Rattle.std.proofs.lemmas.List.{append_cancel_left}
 use Rattle.curp_base.specs.Words.{Each, all_of}
 use Rattle.curp_journal.specs.declared.arrived.Arrived.{Arrived}
 use Rattle.curp_msg.specs.Moved.{Moved}
-use Rattle.curp_msg.specs.declared.machine.Input.{Input}
+use Rattle.curp_msg.specs.Input.{Input}
 use Rattle.curp_durable.specs.Journal.{Batch, HasEncoding, HoldsJournal, IsDamaged, IsNotFormatted, ReadsJournal, framed, records}
 use Rattle.curp_durable.specs.Opening.{Exists, IsOfTheMoment, IsOnlyCause, IsOpened, OpensNot}
 use Rattle.curp_durable.specs.Standing.{Standing}

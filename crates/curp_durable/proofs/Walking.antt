@@ -5,7 +5,7 @@ use Rattle.std.proofs.lemmas.List.{append-nil, drop_at, drop-drop, length-drop, 
 use Rattle.curp_base.specs.Words.{all_of}
 use Rattle.curp_journal.specs.declared.arrived.Arrived.{Arrived}
 use Rattle.curp_msg.specs.Moved.{Moved}
-use Rattle.curp_msg.specs.declared.machine.Input.{Input}
+use Rattle.curp_msg.specs.Input.{Input}
 use Rattle.curp_durable.specs.Journal.{Batch, IsDamaged, IsNotFormatted, framed, records}
 use Rattle.curp_durable.specs.Opening.{FindsNone, FindsNot, FindsRecord, FindsShut, IsOpened, OpensNot, StartsJournal, Walked, WalkedBy, WalkedFrom, WalkedOver, error_at}
 use Rattle.curp_durable.specs.Standing.{Standing, after, begun}

@@ -6,7 +6,7 @@ use Rattle.curp_batches.specs.Batches.{batch_of}
 use Rattle.curp_io.specs.Streams.{Rose}
 use Rattle.curp_journal.specs.declared.arrived.Arrived.{Arrived}
 use Rattle.curp_msg.specs.Moved.{Moved}
-use Rattle.curp_msg.specs.declared.machine.Input.{Input}
+use Rattle.curp_msg.specs.Input.{Input}
 use Rattle.curp_durable.specs.Journal.{HasEncoding, framed}
 use Rattle.curp_durable.specs.Standing.{Standing, answers_of, taken}
 use Rattle.curp_durable.specs.Value.{DurableParts}

@@ -7,7 +7,7 @@ use Rattle.curp_batches.specs.Batches.{batch_of}
 use Rattle.curp_disk.specs.Disk.{Only}
 use Rattle.curp_journal.specs.declared.arrived.Arrived.{Arrived}
 use Rattle.curp_msg.specs.Moved.{Moved}
-use Rattle.curp_msg.specs.declared.machine.Input.{Input}
+use Rattle.curp_msg.specs.Input.{Input}
 use Rattle.curp_durable.specs.Standing.{Standing, after, begun}
 
 abbrev pub Batch : Type 0

@@ -5,14 +5,14 @@ use Rattle.curp_journal.specs.Journal.{next_stamp}
 use Rattle.curp_journal.specs.declared.arrived.Arrived.{Arrived}
 use Rattle.curp_msg.specs.Moved.{Moved, done_of}
 use Rattle.curp_msg.specs.declared.machine.Done.{Done}
-use Rattle.curp_msg.specs.declared.machine.Input.{Input}
+use Rattle.curp_msg.specs.Input.{Input}
 use Rattle.curp_durable.specs.Standing.{Standing}
 use Rattle.curp_durable.specs.declared.stand.Answered.{Answered}
 use Rattle.curp_durable.specs.declared.stand.Answered.TheVariants as answered
 
 -- an input is refused by this number
 abbrev pub refusal : ℕ → Done
-refusal number = record { refused = number; sent = []; completed = None }
+refusal number = record { refused = number; sent = []; invoked = None; completed = None }
 
 -- what the node does: what its machine does, or a refusal by 255 where no stamp is left
 abbrev pub done_by : {N : Type 0} → (N → Input → Moved N) → Standing N → Arrived → Done

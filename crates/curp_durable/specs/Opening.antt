@@ -4,7 +4,7 @@ use Rattle.std.specs.Int.{to_be_bytes, w32}
 use Rattle.curp_base.specs.Words.{Each, all_of}
 use Rattle.curp_journal.specs.declared.arrived.Arrived.{Arrived}
 use Rattle.curp_msg.specs.Moved.{Moved}
-use Rattle.curp_msg.specs.declared.machine.Input.{Input}
+use Rattle.curp_msg.specs.Input.{Input}
 use Rattle.curp_durable.specs.Journal.{Batch, HasEncoding, IsDamaged, IsNotFormatted, ReadsJournal, framed, records}
 use Rattle.curp_durable.specs.Standing.{Standing, after, begun}
 use Rattle.curp_durable.specs.Value.{CheckpointParts}

@@ -68,10 +68,7 @@ fn give<N: Core>(node: &mut N, arrived: &Arrived) -> Result<Done, NoMemory>
     ensures moves { Moves node.old node.new result (N.machine node.old (given arrived.now)) }
     ensures refused { IfOk result (λ done. done.refused ≢ 0 → node.new ≡ node.old) }
 {
-    match arrived {
-        Arrived::Local(order, _) => node.on_order(order),
-        Arrived::Message(named) => node.on_message(&named.message),
-    }
+    node.on(arrived.given())
 }
 
 impl<N: Core> Stand<N> {

@@ -59,10 +59,11 @@ fn recover_and_read(rt: &impl Print, deployment: &mut Deployment) -> Result<()> 
 
 // snippet: a node
 /// A node gets an order or a message. What it sends goes to the network, and what it completes is handed back.
-fn give<N: Core>(node: &mut N, input: &Input, network: &mut Network) -> Result<Option<Completed>> {
+fn give<N: Core>(node: &mut N, input: Input, network: &mut Network) -> Result<Option<Completed>> {
     let Done {
         refused,
         sent,
+        invoked: _,
         completed,
     } = node.on(input)?;
     for message in sent.into_vec() {
@@ -118,7 +119,7 @@ impl Deployment {
     /// A node gets an order, and then the messages are brought, until none is left.
     fn order(&mut self, rt: &impl Print, words: &str, to: NodeId, order: Local) -> Result<()> {
         println!(rt; "{words}")?;
-        self.give(rt, to, &Input::Local(order))?;
+        self.give(rt, to, Input::Local(&order))?;
         for _ in 0..100 {
             let Some(message) = self.network.take() else {
                 return Ok(());
@@ -133,14 +134,14 @@ impl Deployment {
         let (times, fate) = self.network.fate();
         let said = in_words(&message.body);
         println!(rt; "{}. {from} to {to}: {said}{fate}", self.network.taken)?;
-        let input = Input::Message(message);
+        let input = Input::Message(&message);
         for _ in 0..times {
-            self.give(rt, to.0, &input)?;
+            self.give(rt, to.0, input)?;
         }
         Ok(())
     }
 
-    fn give(&mut self, rt: &impl Print, to: NodeId, input: &Input) -> Result<()> {
+    fn give(&mut self, rt: &impl Print, to: NodeId, input: Input) -> Result<()> {
         let network = &mut self.network;
         let completed = match to.kind {
             NodeKind::Manager => give(&mut self.manager, input, network)?,

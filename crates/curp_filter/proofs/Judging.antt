@@ -8,7 +8,7 @@ use Rattle.curp_durable.specs.Standing.{Standing, after, moved_by, number_of, st
 use Rattle.curp_journal.specs.Own.{IsArrivedMessage, IsOwn}
 use Rattle.curp_journal.specs.declared.arrived.Arrived.{Arrived}
 use Rattle.curp_msg.specs.Moved.{Moved}
-use Rattle.curp_msg.specs.declared.machine.Input.{Input}
+use Rattle.curp_msg.specs.Input.{Input}
 use Rattle.curp_filter.specs.Coming.{arrival_in, arrivals_of, came_together}
 use Rattle.curp_filter.specs.Taking.{AreJudged, AreJudgedTogether, BeginsWithMessage, IsJudged, IsUnbegun, MayTake}
 use Rattle.curp_filter.specs.declared.came.Came.{Came}

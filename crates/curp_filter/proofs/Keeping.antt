@@ -9,7 +9,7 @@ use Rattle.curp_durable.specs.Standing.{Standing, after, stepped, taken, taken_o
 use Rattle.curp_durable.specs.Value.{DurableParts}
 use Rattle.curp_journal.specs.declared.arrived.Arrived.{Arrived}
 use Rattle.curp_msg.specs.Moved.{Moved}
-use Rattle.curp_msg.specs.declared.machine.Input.{Input}
+use Rattle.curp_msg.specs.Input.{Input}
 use Rattle.curp_filter.specs.Coming.{arrivals_of}
 use Rattle.curp_filter.specs.declared.came.Came.{Came}
 use Rattle.curp_filter.proofs.Coming.{arrivals-append}

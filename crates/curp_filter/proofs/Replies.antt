@@ -7,7 +7,7 @@ use Rattle.curp_durable.specs.Value.{DurableParts}
 use Rattle.curp_io.specs.Streams.{HoldsPart, SameCount}
 use Rattle.curp_journal.specs.declared.arrived.Arrived.{Arrived}
 use Rattle.curp_msg.specs.Moved.{Moved}
-use Rattle.curp_msg.specs.declared.machine.Input.{Input}
+use Rattle.curp_msg.specs.Input.{Input}
 use Rattle.curp_filter.specs.Coming.{arrivals_of}
 use Rattle.curp_filter.specs.Keeping.{DiskKind, Keeps, Outlasts}
 use Rattle.curp_filter.specs.Saying.{text_of}

@@ -7,7 +7,7 @@ use Rattle.curp_io.specs.Streaming.{TellsFault}
 use Rattle.curp_io.specs.Streams.{HoldsPart, Rose}
 use Rattle.curp_journal.specs.declared.arrived.Arrived.{Arrived}
 use Rattle.curp_msg.specs.Moved.{Moved}
-use Rattle.curp_msg.specs.declared.machine.Input.{Input}
+use Rattle.curp_msg.specs.Input.{Input}
 use Rattle.curp_filter.specs.Coming.{Comes, arrivals_of, number_behind}
 use Rattle.curp_filter.specs.Keeping.{DiskKind, Outlasts}
 use Rattle.curp_filter.specs.Saying.{text_of}

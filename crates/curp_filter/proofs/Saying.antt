@@ -7,7 +7,7 @@ use Rattle.curp_durable.specs.Standing.{Standing, after, answers_of, stepped}
 use Rattle.curp_durable.specs.declared.stand.Answered.{Answered}
 use Rattle.curp_journal.specs.declared.arrived.Arrived.{Arrived}
 use Rattle.curp_msg.specs.Moved.{Moved}
-use Rattle.curp_msg.specs.declared.machine.Input.{Input}
+use Rattle.curp_msg.specs.Input.{Input}
 use Rattle.curp_parcels.specs.declared.outgoing.Outgoing.{Outgoing}
 use Rattle.curp_told.specs.Told.{all_told, input_behind, parcel_of, parcels_of}
 use Rattle.curp_filter.specs.Coming.{arrival_in, arrivals_of, arriving, came_last, came_together, number_behind}

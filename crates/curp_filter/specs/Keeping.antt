@@ -6,7 +6,7 @@ use Rattle.curp_durable.specs.Journal.{HoldsJournal, IsSettled}
 use Rattle.curp_durable.specs.Value.{DurableParts}
 use Rattle.curp_journal.specs.declared.arrived.Arrived.{Arrived}
 use Rattle.curp_msg.specs.Moved.{Moved}
-use Rattle.curp_msg.specs.declared.machine.Input.{Input}
+use Rattle.curp_msg.specs.Input.{Input}
 
 -- a kind of disk, in the words of its clauses
 pub record DiskKind (D : Type 0) : Type 1 where

@@ -2,7 +2,7 @@
 use Rattle.std.specs.Prelude.{ℕ, List, [], ◌∷◌, ◌++◌, Option, Some, None}
 use Rattle.curp_durable.specs.Standing.{Standing, after, answer_of}
 use Rattle.curp_msg.specs.Moved.{Moved}
-use Rattle.curp_msg.specs.declared.machine.Input.{Input}
+use Rattle.curp_msg.specs.Input.{Input}
 use Rattle.curp_parcels.specs.declared.outgoing.Outgoing.{Outgoing}
 use Rattle.curp_parcels.specs.declared.outgoing.Outgoing.TheVariants as out
 use Rattle.curp_told.specs.Told.{input_behind, parcels_of, told}

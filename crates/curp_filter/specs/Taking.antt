@@ -6,7 +6,7 @@ use Rattle.curp_journal.specs.Own.{IsArrivedMessage, IsOwn}
 use Rattle.curp_journal.specs.declared.arrived.Arrived.{Arrived}
 use Rattle.curp_journal.specs.declared.origin.Origin.TheVariants.{Fresh}
 use Rattle.curp_msg.specs.Moved.{Moved}
-use Rattle.curp_msg.specs.declared.machine.Input.{Input}
+use Rattle.curp_msg.specs.Input.{Input}
 use Rattle.curp_filter.specs.Coming.{arrival_in}
 use Rattle.curp_filter.specs.declared.came.Came.{Came}
 use Rattle.curp_filter.specs.declared.came.Came.TheVariants as came

@@ -6,7 +6,7 @@ use Rattle.curp_durable.specs.Value.{DurableParts}
 use Rattle.curp_io.specs.Streams.{HoldsPart, Rose, SameCount}
 use Rattle.curp_journal.specs.declared.arrived.Arrived.{Arrived}
 use Rattle.curp_msg.specs.Moved.{Moved}
-use Rattle.curp_msg.specs.declared.machine.Input.{Input}
+use Rattle.curp_msg.specs.Input.{Input}
 use Rattle.curp_parcels.specs.Reading.{ParcelsRead, StandsNot, StandsTooLong, nothing_read}
 use Rattle.curp_filter.specs.Coming.{Comes, arrivals_of, number_behind}
 use Rattle.curp_filter.specs.Keeping.{DiskKind, Keeps, Outlasts}

@@ -1,7 +1,7 @@
 -- What is known of each kept journal by its type (this project's own).
 use Rattle.curp_base.specs.Words.{Each}
 use Rattle.curp_msg.specs.Moved.{Moved}
-use Rattle.curp_msg.specs.declared.machine.Input.{Input}
+use Rattle.curp_msg.specs.Input.{Input}
 use Rattle.curp_client.specs.Machine.{client_machine}
 use Rattle.curp_config.specs.Machine.{manager_machine}
 use Rattle.curp_nodes.specs.Machines.{backup_machine, master_machine, witness_machine}

@@ -6,7 +6,7 @@ use Rattle.curp_cmd.specs.declared.node.NodeKind.{NodeKind}
 use Rattle.curp_cmd.specs.declared.node.NodeKind.TheVariants as kind
 use Rattle.curp_base.specs.Words.{numbered, numbers_from}
 use Rattle.curp_msg.specs.Moved.{Moved, within}
-use Rattle.curp_msg.specs.declared.machine.Input.{Input}
+use Rattle.curp_msg.specs.Input.{Input}
 use Rattle.curp_msg.specs.declared.outcome.StepResult.{StepResult}
 use Rattle.curp_msg.specs.declared.outcome.StepResult.TheVariants as result
 use Rattle.curp_msg.specs.declared.script.Header.{Header}

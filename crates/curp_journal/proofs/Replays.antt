@@ -3,8 +3,8 @@ use Rattle.std.proofs.Common.{◌≡◌, ℕ, zero, suc, ◌+◌, ◌<◌, List,
 use Rattle.curp_base.specs.Words.{At}
 use Rattle.curp_base.proofs.Lists.{Each-append}
 use Rattle.curp_msg.specs.Moved.{Moved, done_of, within}
-use Rattle.curp_msg.specs.declared.machine.Input.{Input}
-use Rattle.curp_msg.specs.declared.machine.Input.TheVariants as input
+use Rattle.curp_msg.specs.Input.{Input}
+use Rattle.curp_msg.specs.Input as input
 use Rattle.curp_journal.specs.Given.{given, stamp_of}
 use Rattle.curp_journal.specs.Journal.{IsJournal, IsReplay, Stamped, after, last_stamp, made, next_stamp, replayed}
 use Rattle.curp_journal.specs.declared.arrived.Arrived.{Arrived}

@@ -1,4 +1,5 @@
 ghost use Rattle.std.specs.Prelude.{◌≡◌, IfOk};
+ghost use Rattle.curp_msg.specs.Input.{input_of};
 ghost use Rattle.curp_journal.specs.Given.{given, stamp_of};
 
 use curp_base::NoMemory;
@@ -51,13 +52,13 @@ impl Arrived {
         }
     }
 
-    /// The input that the node gets by it, copied.
-    pub fn given(&self, alloc: Global) -> Result<Input, NoMemory>
-        ensures given { IfOk result (λ input. input ≡ given self.now) }
+    /// The input that the node gets by it.
+    pub fn given(&self) -> Input
+        ensures given { input_of result ≡ given self.now }
     {
         match self {
-            Arrived::Local(order, _) => Ok(Input::Local(order.copy()?)),
-            Arrived::Message(named) => Ok(Input::Message(named.message.copy(alloc)?)),
+            Arrived::Local(order, _) => Input::Local(order),
+            Arrived::Message(named) => Input::Message(&named.message),
         }
     }
 

@@ -1,7 +1,8 @@
 ghost use Rattle.std.specs.Prelude.{◌≡◌, IfOk};
 
 use crate::Arrived;
-use curp_base::{Items, NoMemory};
+use curp_base::{Items, NoMemory, Shared};
+use curp_cmd::Request;
 use curp_msg::{Done, Message};
 use std::alloc::Global;
 
@@ -42,8 +43,18 @@ fn copy_of_done(alloc: Global, done: &Done) -> Result<Done, NoMemory>
     Ok(Done {
         refused: done.refused,
         sent: Items::new(sent),
+        invoked: shared(&done.invoked)?,
         completed: done.completed,
     })
+}
+
+fn shared(request: &Option<Shared<Request>>) -> Result<Option<Shared<Request>>, NoMemory>
+    ensures same { IfOk result (λ it. it ≡ request.now) }
+{
+    match request {
+        Some(request) => Ok(Some(request.share()?)),
+        None => Ok(None),
+    }
 }
 
 fn copies_of_messages(alloc: Global, messages: &[Message]) -> Result<Vec<Message>, NoMemory>

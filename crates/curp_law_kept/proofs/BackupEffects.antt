@@ -8,8 +8,8 @@ use Rattle.curp_msg.specs.Moved.{says}
 use Rattle.curp_msg.specs.declared.body.Append.{Append}
 use Rattle.curp_msg.specs.declared.body.Body.{Body}
 use Rattle.curp_msg.specs.declared.body.Body.TheVariants as body
-use Rattle.curp_msg.specs.declared.machine.Input.{Input}
-use Rattle.curp_msg.specs.declared.machine.Input.TheVariants as input
+use Rattle.curp_msg.specs.Input.{Input}
+use Rattle.curp_msg.specs.Input as input
 use Rattle.curp_model.specs.Backup.{AfterAppend, AfterFence, BackupState, append, backup_input, fence, install, installed_once, is_installed_at, longer, on_backup}
 use Rattle.curp_law_kept.specs.BackupEffect.{AppendAnswerSays, BackupEffect, BackupMove, ByAppend, ByFence, ByInstall, FenceReplySays, Rests}
 use Rattle.curp_law_kept.specs.Brought.{Brings}

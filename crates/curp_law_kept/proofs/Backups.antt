@@ -15,7 +15,7 @@ use Rattle.curp_msg.specs.declared.body.Appended.{Appended}
 use Rattle.curp_msg.specs.declared.body.Body.{Body}
 use Rattle.curp_msg.specs.declared.body.Body.TheVariants as body
 use Rattle.curp_msg.specs.declared.body.FenceAnswer.{FenceAnswer}
-use Rattle.curp_msg.specs.declared.machine.Input.{Input}
+use Rattle.curp_msg.specs.Input.{Input}
 use Rattle.curp_msg.specs.declared.message.Message.{Message}
 use Rattle.curp_model.specs.Backup.{BackupState, longer}
 use Rattle.curp_model.specs.Named.{IsBackup}

@@ -3,7 +3,7 @@ use Rattle.std.proofs.Common.{subst}
 use Rattle.curp_cmd.specs.declared.node.NodeId.{NodeId}
 use Rattle.curp_msg.specs.Moved.{says}
 use Rattle.curp_msg.specs.declared.body.Body.{Body}
-use Rattle.curp_msg.specs.declared.machine.Input.{Input}
+use Rattle.curp_msg.specs.Input.{Input}
 use Rattle.curp_facts.specs.Facts.{WasSent}
 use Rattle.curp_model.specs.World.{World}
 use Rattle.curp_law_kept.specs.Deeds.{IsFor}

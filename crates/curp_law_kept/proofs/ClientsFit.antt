@@ -25,8 +25,8 @@ use Rattle.curp_msg.specs.declared.body.Worth.{Worth}
 use Rattle.curp_msg.specs.declared.config.Config.{Config}
 use Rattle.curp_msg.specs.declared.config.PartConfig.{PartConfig}
 use Rattle.curp_msg.specs.declared.machine.Capture.{Capture}
-use Rattle.curp_msg.specs.declared.machine.Input.{Input}
-use Rattle.curp_msg.specs.declared.machine.Input.TheVariants as input
+use Rattle.curp_msg.specs.Input.{Input}
+use Rattle.curp_msg.specs.Input as input
 use Rattle.curp_msg.specs.declared.machine.Local.{Local}
 use Rattle.curp_msg.specs.declared.machine.Local.TheVariants as local
 use Rattle.curp_model.specs.Client.{Attempt, ClientState, Early, Pending, accepted, asks, attempt_at, client_input, client_ordered, completes_with, configured, early_reply, fetch, if_proved, invoke, most_pending, next_request, on_client, owner_of, proved_answer, rejected, replaced, replied, retry, sends_again, sends_first, sent_by, valued, with_accept, with_early, with_evidence, with_id, with_pending, Glimpse, with_sight, seen_glimpse, if_seen, glimpsed, with_glimpse, glimpse, asks_value, probed}

@@ -6,7 +6,7 @@ use Rattle.curp_cmd.specs.Node.{backup_node, client_node, manager_node, master_n
 use Rattle.curp_cmd.specs.declared.node.NodeId.{NodeId}
 use Rattle.curp_cmd.specs.declared.node.NodeKind.TheVariants as kind
 use Rattle.curp_msg.specs.Moved.{within}
-use Rattle.curp_msg.specs.declared.machine.Input.{Input}
+use Rattle.curp_msg.specs.Input.{Input}
 use Rattle.curp_msg.specs.declared.message.Message.{Message}
 use Rattle.curp_msg.specs.declared.script.Step.{Step}
 use Rattle.curp_order.specs.declared.Event.{Event}

@@ -20,8 +20,8 @@ use Rattle.curp_msg.specs.declared.body.Body.{Body}
 use Rattle.curp_msg.specs.declared.body.Body.TheVariants as body
 use Rattle.curp_model.specs.declared.Mode.{Mode}
 use Rattle.curp_model.specs.declared.Mode.TheVariants.{Idle, Normal, Frozen}
-use Rattle.curp_msg.specs.declared.machine.Input.{Input}
-use Rattle.curp_msg.specs.declared.machine.Input.TheVariants as input
+use Rattle.curp_msg.specs.Input.{Input}
+use Rattle.curp_msg.specs.Input as input
 use Rattle.curp_model.specs.Backup.{AfterAppend, AfterFence, BackupState, append, backup_input, fence, install, installed_once, is_installed_at, on_backup}
 use Rattle.curp_model.specs.Witness.{HeldRequest, newly_held, placed, suspect, survives, AfterCollection, AfterRecord, WitnessState, witness_input, by_room, collected_at, collected_in, conflict, freeze, full_set, gc, hold, holds, on_witness, started, stranger_to, turned_away, unless_turned_away}
 use Rattle.curp_facts.specs.Growth.{BackupGrows, WitnessGrows}

@@ -18,8 +18,8 @@ use Rattle.curp_msg.specs.declared.machine.Local.{Local}
 use Rattle.curp_msg.specs.declared.machine.Local.TheVariants as local
 use Rattle.curp_model.specs.Manager.{Attempted, ManagerState, Migration, NewLists, Next, adopted_at, adopts, after_replace_numbers, client_for, counter_ends, expire, expires, finished, given_in, gives, heard, last_number, manager_input, manager_ordered, migrate, migrates, move_for, nudge, on_given, on_manager, on_prepared, on_recovered, on_taken, part_at, prepared_in, recover, recovered_in, recovers, recovery_for, replace, replacement_for, replaces, taken_in, tells_again, told, unless_numbers_end, version_adopted, version_in_work}
 use Rattle.curp_msg.specs.declared.body.Recovered.{Recovered}
-use Rattle.curp_msg.specs.declared.machine.Input.{Input}
-use Rattle.curp_msg.specs.declared.machine.Input.TheVariants as input
+use Rattle.curp_msg.specs.Input.{Input}
+use Rattle.curp_msg.specs.Input as input
 use Rattle.curp_base.specs.Words.{rises_past}
 use Rattle.std.specs.Prelude.{Result, Ok, Err}
 use Rattle.curp_msg.specs.Moved.{Moved, unless_refused}

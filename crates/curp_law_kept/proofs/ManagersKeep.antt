@@ -11,7 +11,7 @@ use Rattle.curp_msg.specs.declared.body.Body.{Body}
 use Rattle.curp_msg.specs.declared.body.Body.TheVariants as body
 use Rattle.curp_msg.specs.declared.config.PartConfig.{PartConfig}
 use Rattle.curp_msg.specs.declared.machine.Completed.{Completed}
-use Rattle.curp_msg.specs.declared.machine.Input.{Input}
+use Rattle.curp_msg.specs.Input.{Input}
 use Rattle.curp_msg.specs.declared.message.Message.{Message}
 use Rattle.curp_order.specs.Order.{IsHistory}
 use Rattle.curp_order.specs.declared.Event.{Event}

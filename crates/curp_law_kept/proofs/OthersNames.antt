@@ -25,7 +25,7 @@ use Rattle.curp_law_kept.proofs.NumberedLists.{among_each, numbered_set_cases}
 use Rattle.curp_law_kept.proofs.Moves.{Move, Nothing}
 use Rattle.curp_law_kept.proofs.Quiet.{names_stay}
 use Rattle.curp_law_kept.proofs.ManagerWorlds.{sent_cases, sent_later}
-use Rattle.curp_msg.specs.declared.machine.Input.{Input}
+use Rattle.curp_msg.specs.Input.{Input}
 use Rattle.curp_base.proofs.Numbered.{number_within}
 use Rattle.curp_model.proofs.Batches.{all_of-kept}
 

@@ -21,8 +21,8 @@ use Rattle.curp_cmd.specs.Node.{is_among, same_node}
 use Rattle.curp_cmd.specs.Store.{is_update}
 use Rattle.curp_base.specs.Words.{rises_past}
 use Rattle.curp_model.specs.Master.{MasterState, Switch, Switching, last_round, on_serving, serving_ordered}
-use Rattle.curp_msg.specs.declared.machine.Input.{Input}
-use Rattle.curp_msg.specs.declared.machine.Input.TheVariants as input
+use Rattle.curp_msg.specs.Input.{Input}
+use Rattle.curp_msg.specs.Input as input
 use Rattle.curp_msg.specs.Moved.{Moved}
 use Rattle.curp_model.specs.Recovery.{MasterStage, Fresh, Recovering, Serving, RecoveryState, RecoveryPhase, Asking, Storing, Waiting, Replayed, again_in, all_complete, append_answered, both_there, completed_by, fence_answered, log_comes, master_ordered, on_fresh, on_master, on_recovering, master_input, recovery_ordered, requests_come, serves, stored_comes, turns_read_away, with_complete}
 use Rattle.curp_facts.specs.Growth.{LogGrows, MasterGrows, ServesOn, core}

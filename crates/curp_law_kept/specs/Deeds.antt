@@ -1,8 +1,8 @@
 -- What a step gives a node.
 use Rattle.std.specs.Prelude.{◌≡◌, ⊤}
 use Rattle.curp_cmd.specs.declared.node.NodeId.{NodeId}
-use Rattle.curp_msg.specs.declared.machine.Input.{Input}
-use Rattle.curp_msg.specs.declared.machine.Input.TheVariants as input
+use Rattle.curp_msg.specs.Input.{Input}
+use Rattle.curp_msg.specs.Input as input
 use Rattle.curp_msg.specs.declared.outcome.StepResult.TheVariants as result
 use Rattle.curp_msg.specs.declared.script.Step.{Step}
 use Rattle.curp_facts.specs.Facts.{WasSent}

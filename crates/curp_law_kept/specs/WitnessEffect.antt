@@ -16,8 +16,8 @@ use Rattle.curp_msg.specs.declared.body.Gc.{Gc}
 use Rattle.curp_msg.specs.declared.body.Record.{Record}
 use Rattle.curp_msg.specs.declared.body.Rejected.{Rejected}
 use Rattle.curp_msg.specs.declared.body.Start.{Start}
-use Rattle.curp_msg.specs.declared.machine.Input.{Input}
-use Rattle.curp_msg.specs.declared.machine.Input.TheVariants as input
+use Rattle.curp_msg.specs.Input.{Input}
+use Rattle.curp_msg.specs.Input as input
 use Rattle.curp_msg.specs.declared.message.Message.{Message}
 use Rattle.curp_model.specs.declared.Mode.TheVariants.{Idle, Normal, Frozen}
 use Rattle.curp_model.specs.Laws.{clash}

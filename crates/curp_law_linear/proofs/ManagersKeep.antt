@@ -1,7 +1,7 @@
 -- An input to the manager keeps what is kept of the order.
 use Rattle.std.proofs.Common.{◌≡◌, List, [], refl, Option, Some, None}
 use Rattle.curp_cmd.specs.Node.{manager_node}
-use Rattle.curp_msg.specs.declared.machine.Input.{Input}
+use Rattle.curp_msg.specs.Input.{Input}
 use Rattle.curp_order.specs.declared.Event.{Event}
 use Rattle.curp_model.specs.Manager.{Attempted, adoption, manager_input}
 use Rattle.curp_model.specs.World.{World}

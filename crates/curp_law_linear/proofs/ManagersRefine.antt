@@ -3,7 +3,7 @@ use Rattle.std.proofs.Common.{◌≡◌, List, [], ◌∷◌, length, ap, sym, �
 use Rattle.curp_base.specs.Words.{Each, numbered}
 use Rattle.curp_cmd.specs.Node.{manager_node}
 use Rattle.curp_msg.specs.Moved.{Moved}
-use Rattle.curp_msg.specs.declared.machine.Input.{Input}
+use Rattle.curp_msg.specs.Input.{Input}
 use Rattle.curp_order.specs.declared.Event.{Event}
 use Rattle.curp_msg.specs.declared.config.PartConfig.{PartConfig}
 use Rattle.curp_model.specs.Manager.{Attempted, ManagerState, adoption, manager_input}

@@ -1,6 +1,6 @@
 -- Whatever comes to a master: it answers a read at once, or what it pushes and captures is marked, and nothing else.
 use Rattle.std.proofs.Common.{◌≡◌, ◌+◌, ◌==◌, ◌&&◌, nat_lt, if◌then◌else◌, ℕ, Bool, true, List, [], ◌∷◌, fold, length, map, refl, ap, ap₂, sym, ◌∙◌, subst, Option, Some, None, arith, ◌≤◌, ◌++◌}
-use Rattle.curp_msg.specs.declared.machine.Input.{Input}
+use Rattle.curp_msg.specs.Input.{Input}
 use Rattle.curp_cmd.specs.declared.node.NodeId.{NodeId}
 use Rattle.curp_msg.specs.declared.body.Body.{Body}
 use Rattle.curp_model.specs.Recovery.{MasterStage, Serving, Fresh, Recovering, master_input}
@@ -24,7 +24,7 @@ use Rattle.curp_law_linear.proofs.ReadsMarks.{none_new}
 use Rattle.curp_base.proofs.Lists.{Each-weaker}
 use Rattle.std.proofs.Math.Seq.{drop-length}
 use Rattle.curp_model.specs.Recovery as recovery
-use Rattle.curp_msg.specs.declared.machine.Input.TheVariants as input
+use Rattle.curp_msg.specs.Input as input
 use Rattle.std.proofs.lemmas.Bool.{eq-eqb}
 use Rattle.std.proofs.lemmas.Bool.Decides.{nat_tests}
 

@@ -11,8 +11,8 @@ use Rattle.curp_msg.specs.declared.body.Body.{Body}
 use Rattle.curp_msg.specs.declared.body.Body.TheVariants as body
 use Rattle.curp_msg.specs.declared.body.Recovered.{Recovered}
 use Rattle.curp_msg.specs.declared.config.PartConfig.{PartConfig}
-use Rattle.curp_msg.specs.declared.machine.Input.{Input}
-use Rattle.curp_msg.specs.declared.machine.Input.TheVariants as input
+use Rattle.curp_msg.specs.Input.{Input}
+use Rattle.curp_msg.specs.Input as input
 use Rattle.curp_model.specs.Manager as manager
 use Rattle.curp_model.specs.Manager.{Attempted, Doing, ManagerState, Recovering, Replacing, Steady, adopted_by, adoption, adopts, attempt_at, counter_ends, finished, last_number, manager_input, on_manager, part_at, recovered_in, recovered_part, unless_numbers_end}
 use Rattle.curp_model.specs.World.{World}

@@ -10,7 +10,7 @@ use Rattle.curp_journal.specs.Journal.{IsJournal, IsReplay, last_stamp, made}
 use Rattle.curp_journal.specs.declared.arrived.Arrived.{Arrived}
 use Rattle.curp_journal.specs.declared.item.Item.{Item}
 use Rattle.curp_msg.specs.Moved.{Moved}
-use Rattle.curp_msg.specs.declared.machine.Input.{Input}
+use Rattle.curp_msg.specs.Input.{Input}
 use Rattle.curp_durable.proofs.Standings.{after-append, after_taken}
 use Rattle.curp_durable.specs.Standing.{Standing, after, answers_of, begun, moved_by, number_of, stepped, taken, taken_one}
 use Rattle.curp_durable.specs.declared.stand.Answered.{Answered}

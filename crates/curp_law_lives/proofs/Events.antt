@@ -4,7 +4,7 @@ use Rattle.std.proofs.Common.{◌∙◌, ap}
 use Rattle.curp_base.specs.Words.{all_of}
 use Rattle.curp_journal.specs.declared.arrived.Arrived.{Arrived}
 use Rattle.curp_msg.specs.Moved.{Moved}
-use Rattle.curp_msg.specs.declared.machine.Input.{Input}
+use Rattle.curp_msg.specs.Input.{Input}
 use Rattle.curp_durable.specs.Journal.{HoldsJournal, IsBeforeOrAfter, IsSettled}
 use Rattle.curp_durable.specs.Opening.{IsOpened}
 use Rattle.curp_durable.specs.Standing.{Standing, after, answers_of, taken}

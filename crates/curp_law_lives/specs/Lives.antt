@@ -2,7 +2,7 @@
 use Rattle.std.specs.Prelude.{◌≡◌, ℕ, List, [], ◌∷◌, ◌++◌, Option, Some, None}
 use Rattle.curp_journal.specs.declared.arrived.Arrived.{Arrived}
 use Rattle.curp_msg.specs.Moved.{Moved}
-use Rattle.curp_msg.specs.declared.machine.Input.{Input}
+use Rattle.curp_msg.specs.Input.{Input}
 use Rattle.curp_durable.specs.Journal.{HoldsJournal, IsBeforeOrAfter}
 use Rattle.curp_durable.specs.Standing.{Standing, after, answers_of, begun, taken}
 use Rattle.curp_durable.specs.declared.stand.Answered.{Answered}

@@ -5,7 +5,7 @@ use Rattle.curp_journal.specs.Journal.{IsJournal, last_stamp}
 use Rattle.curp_journal.specs.declared.arrived.Arrived.{Arrived}
 use Rattle.curp_journal.specs.declared.item.Item.{Item}
 use Rattle.curp_msg.specs.Moved.{Moved}
-use Rattle.curp_msg.specs.declared.machine.Input.{Input}
+use Rattle.curp_msg.specs.Input.{Input}
 use Rattle.curp_durable.specs.Journal.{HoldsJournal}
 use Rattle.curp_durable.specs.Standing.{Standing, after, begun}
 use Rattle.curp_durable.specs.declared.stand.Answered.{Answered}

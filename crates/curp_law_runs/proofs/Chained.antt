@@ -2,8 +2,8 @@
 use Rattle.std.proofs.Common.{inl, inr, List, refl, sym, subst}
 use Rattle.curp_cmd.specs.Node.{manager_node}
 use Rattle.curp_msg.specs.Moved.{says}
-use Rattle.curp_msg.specs.declared.machine.Input.{Input}
-use Rattle.curp_msg.specs.declared.machine.Input.TheVariants as input
+use Rattle.curp_msg.specs.Input.{Input}
+use Rattle.curp_msg.specs.Input as input
 use Rattle.curp_msg.specs.declared.script.Header.{Header}
 use Rattle.curp_msg.specs.declared.script.Step.{Step}
 use Rattle.curp_model.specs.Manager.{adoption}

@@ -1,7 +1,7 @@
 -- The routes of migrations at the opening, and after an input to the manager.
 use Rattle.std.proofs.Common.{List, refl, arith, Option}
 use Rattle.curp_cmd.specs.Node.{manager_node}
-use Rattle.curp_msg.specs.declared.machine.Input.{Input}
+use Rattle.curp_msg.specs.Input.{Input}
 use Rattle.curp_msg.specs.declared.message.Message.{Message}
 use Rattle.curp_msg.specs.declared.script.Header.{Header}
 use Rattle.curp_order.specs.declared.Event.{Event}

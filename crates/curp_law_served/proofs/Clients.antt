@@ -24,8 +24,8 @@ use Rattle.curp_msg.specs.declared.config.Config.{Config}
 use Rattle.curp_msg.specs.declared.config.PartConfig.{PartConfig}
 use Rattle.curp_msg.specs.declared.machine.Capture.{Capture}
 use Rattle.curp_msg.specs.declared.machine.Completed.{Completed}
-use Rattle.curp_msg.specs.declared.machine.Input.{Input}
-use Rattle.curp_msg.specs.declared.machine.Input.TheVariants as input
+use Rattle.curp_msg.specs.Input.{Input}
+use Rattle.curp_msg.specs.Input as input
 use Rattle.curp_msg.specs.declared.machine.Local.{Local}
 use Rattle.curp_msg.specs.declared.machine.Local.TheVariants as local
 use Rattle.curp_model.specs.Client.{Attempt, ClientState, Early, Glimpse, Pending, accepted, asks, asks_value, client_input, client_ordered, completes_with, configured, early_reply, glimpse, glimpsed, if_proved, if_seen, invocation_for, invoke, next_request, on_client, probed, proved_answer, rejected, replaced, replied, seen_glimpse, sends_first, valued, with_accept, with_early, with_evidence, with_glimpse, with_id, with_pending, with_sight, without_id}

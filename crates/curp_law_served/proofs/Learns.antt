@@ -17,8 +17,8 @@ use Rattle.curp_msg.specs.declared.body.Reply.{Reply}
 use Rattle.curp_msg.specs.declared.body.Worth.{Worth}
 use Rattle.curp_msg.specs.declared.config.Config.{Config}
 use Rattle.curp_msg.specs.declared.config.PartConfig.{PartConfig}
-use Rattle.curp_msg.specs.declared.machine.Input.{Input}
-use Rattle.curp_msg.specs.declared.machine.Input.TheVariants as input
+use Rattle.curp_msg.specs.Input.{Input}
+use Rattle.curp_msg.specs.Input as input
 use Rattle.curp_msg.specs.declared.message.Message.{Message}
 use Rattle.curp_facts.specs.Facts.{IsAmong}
 use Rattle.curp_msg.specs.Moved.{within}

@@ -9,7 +9,7 @@ use Rattle.curp_cmd.specs.declared.node.NodeId.{NodeId}
 use Rattle.curp_msg.specs.Moved.{Moved, quiet, says, sends, within}
 use Rattle.curp_msg.specs.declared.body.Body.{Body}
 use Rattle.curp_msg.specs.declared.body.Body.TheVariants as body
-use Rattle.curp_msg.specs.declared.machine.Input.TheVariants as input
+use Rattle.curp_msg.specs.Input as input
 use Rattle.curp_msg.specs.declared.message.Message.{Message}
 use Rattle.curp_msg.specs.declared.outcome.StepResult.{StepResult}
 use Rattle.curp_msg.specs.declared.outcome.StepResult.TheVariants.{Done}

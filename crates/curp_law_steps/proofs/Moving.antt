@@ -5,7 +5,7 @@ use Rattle.curp_base.proofs.Lists.{at_append}
 use Rattle.curp_cmd.specs.declared.node.NodeId.{NodeId}
 use Rattle.curp_cmd.specs.declared.node.NodeKind.{NodeKind}
 use Rattle.curp_cmd.specs.declared.node.NodeKind.TheVariants.{Manager, Client, Master, Backup, Witness}
-use Rattle.curp_msg.specs.declared.machine.Input.{Input}
+use Rattle.curp_msg.specs.Input.{Input}
 use Rattle.curp_msg.specs.declared.outcome.StepResult.{StepResult}
 use Rattle.curp_msg.specs.declared.outcome.StepResult.TheVariants.{Done, NoMessage, NoNode, Gone, Full, Refused}
 use Rattle.curp_msg.specs.declared.outcome.StepResult.TheVariants as result

@@ -6,8 +6,8 @@ use Rattle.curp_base.specs.Words.{Each}
 use Rattle.curp_base.proofs.Lists.{Each-append, Each-weaker}
 use Rattle.curp_cmd.specs.RequestId.{same_id}
 use Rattle.curp_cmd.specs.declared.command.RequestId.{RequestId}
-use Rattle.curp_msg.specs.declared.machine.Input.{Input}
-use Rattle.curp_msg.specs.declared.machine.Input.TheVariants as input
+use Rattle.curp_msg.specs.Input.{Input}
+use Rattle.curp_msg.specs.Input as input
 use Rattle.curp_model.specs.Client.{ClientState, Pending, client_input, replaced, with_id, NumbersAreUsed}
 use Rattle.curp_law_steps.proofs.Inputs.{heard_keeps, ordered_keeps}
 use Rattle.curp_cmd.proofs.Ids.{same_id-self, same_id-true}

@@ -16,7 +16,7 @@ ghost use Rattle.curp_msg.specs.declared.answer.Reason.TheVariants as reason;
 ghost use Rattle.curp_msg.specs.declared.body.Body.{Body};
 ghost use Rattle.curp_msg.specs.declared.config.Config.{Config};
 ghost use Rattle.curp_msg.specs.declared.config.PartConfig.{PartConfig};
-ghost use Rattle.curp_msg.specs.declared.machine.Input.{Input};
+ghost use Rattle.curp_msg.specs.Input.{Input};
 ghost use Rattle.curp_msg.specs.declared.message.Message.{Message};
 ghost use Rattle.curp_msg.specs.declared.script.Header.{Header};
 ghost use Rattle.curp_msg.specs.declared.script.Protocol.{Protocol};

@@ -2,7 +2,7 @@
 use Rattle.std.proofs.Common.{ℕ, List, refl, ◌∙◌}
 use Rattle.curp_cmd.specs.Node.{backup_node, client_node, manager_node, master_node, witness_node}
 use Rattle.curp_msg.specs.Moved.{Moved, Node}
-use Rattle.curp_msg.specs.declared.machine.Input.{Input}
+use Rattle.curp_msg.specs.Input.{Input}
 use Rattle.curp_model.specs.Backup.{BackupState, backup_input}
 use Rattle.curp_model.specs.Client.{ClientState, client_input}
 use Rattle.curp_model.specs.Manager.{ManagerState, manager_input}

@@ -6,7 +6,7 @@ use Rattle.std.proofs.lemmas.Bool.Decides.{nat_tests}
 use Rattle.curp_base.specs.Cases.{◌>>=◌, refuse_if}
 use Rattle.curp_base.proofs.Ends.{never_rises}
 use Rattle.curp_msg.specs.Moved.{Moved, refuses, unless_refused}
-use Rattle.curp_msg.specs.declared.machine.Input.TheVariants as input
+use Rattle.curp_msg.specs.Input as input
 use Rattle.curp_msg.specs.declared.machine.Local.TheVariants as local
 use Rattle.curp_model.specs.Manager.{ManagerState, expire, expires, last_number, manager_input, manager_ordered, unless_numbers_end}
 use Rattle.curp_model.proofs.Managers.{counters_stay}

@@ -16,8 +16,8 @@ use Rattle.curp_cmd.proofs.Nodes.{same_node-true, either_node}
 use Rattle.curp_msg.specs.Moved.{done_of}
 use Rattle.curp_msg.specs.Weight.{weight_of}
 use Rattle.curp_msg.specs.declared.machine.Done.{Done}
-use Rattle.curp_msg.specs.declared.machine.Input.{Input}
-use Rattle.curp_msg.specs.declared.machine.Input.TheVariants as input
+use Rattle.curp_msg.specs.Input.{Input}
+use Rattle.curp_msg.specs.Input as input
 use Rattle.curp_msg.specs.declared.machine.Local.TheVariants as local
 use Rattle.curp_msg.specs.declared.message.Message.{Message}
 use Rattle.curp_msg.specs.declared.outcome.StepResult.TheVariants as result

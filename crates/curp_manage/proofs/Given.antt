@@ -23,7 +23,7 @@ use Rattle.curp_model.specs.World.{shape_of}
 use Rattle.curp_msg.specs.Limits.{step_limit}
 use Rattle.curp_msg.specs.Moved.{Moved, done_of}
 use Rattle.curp_msg.specs.declared.machine.Done.{Done}
-use Rattle.curp_msg.specs.declared.machine.Input.{Input}
+use Rattle.curp_msg.specs.Input.{Input}
 use Rattle.curp_msg.specs.declared.script.Header.{Header}
 use Rattle.curp_config.specs.Machine.{manager_machine}
 

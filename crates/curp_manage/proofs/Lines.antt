@@ -4,7 +4,7 @@ use Rattle.curp_manage.specs.Managed.{LineDone, Managed, input_accepted, input_g
 use Rattle.curp_manage.specs.declared.managing.Crash.{Crash}
 use Rattle.curp_model.specs.Manager.{ManagerState, manager_input}
 use Rattle.curp_msg.specs.Moved.{Moved}
-use Rattle.curp_msg.specs.declared.machine.Input.{Input}
+use Rattle.curp_msg.specs.Input.{Input}
 use Rattle.curp_script.specs.declared.manage.ManageLine.{ManageLine}
 use Rattle.curp_script.specs.declared.manage.ManageLine.TheVariants as line
 use Rattle.std.proofs.lemmas.Bool.{cond_both}

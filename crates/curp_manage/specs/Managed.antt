@@ -9,8 +9,8 @@ use Rattle.curp_model.specs.Manager.{ManagerState, manager_input, opening_manage
 use Rattle.curp_model.specs.World.{shape_of}
 use Rattle.curp_msg.specs.Moved.{Moved, says}
 use Rattle.curp_msg.specs.declared.body.Body.TheVariants as body
-use Rattle.curp_msg.specs.declared.machine.Input.{Input}
-use Rattle.curp_msg.specs.declared.machine.Input.TheVariants as input
+use Rattle.curp_msg.specs.Input.{Input}
+use Rattle.curp_msg.specs.Input as input
 use Rattle.curp_msg.specs.declared.message.Message.{Message}
 use Rattle.curp_msg.specs.declared.script.Header.{Header}
 use Rattle.curp_script.specs.declared.manage.ManageLine.{ManageLine}

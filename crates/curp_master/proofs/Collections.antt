@@ -13,6 +13,6 @@ pub collected_moves : (node : Node MasterState) (next : ℕ) (queue : List Queue
     → node.state.phase ≡ Open → next ≡ synced node.state → queue ≡ filter (λ q. not (has_come next q)) node.state.queue
     → ids ≡ map (λ q. q.id) (filter (has_come next) node.state.queue)
     → sent ≡ says_each (master_node node.number) node.state.witnesses (Gc (record { epoch = node.state.epoch; ids = ids }))
-    → Makes (record node { state = record node.state { queue = queue } }) (record { refused = 0; sent = sent; completed = None })
+    → Makes (record node { state = record node.state { queue = queue } }) (record { refused = 0; sent = sent; invoked = None; completed = None })
     (numbered_move node.number (collect_in node.number node.state node.state.phase))
 collected_moves node next queue ids sent free its its_queue its_ids its_sent = rw (its_sent, its_ids, its_queue, its, free) (refl, refl)

@@ -34,11 +34,11 @@ said n m next replies values moved its its_replies its_values its_moved =
 pub settled_moves : (node new : Node MasterState) (m : MasterState) (sent : List Message)
     → m.round ≡ node.state.round → m.captured ≡ node.state.captured
     → new.number ≡ node.number → new.state ≡ (settle node.number m).state → sent ≡ (settle node.number m).messages
-    → Makes new (record { refused = 0; sent = sent; completed = None }) (move_of node (settle node.number m))
+    → Makes new (record { refused = 0; sent = sent; invoked = None; completed = None }) (move_of node (settle node.number m))
 unfolding settle
 settled_moves node new m sent round captured its_number its_state its_sent =
     let stays : unless_it_ends node.state (settle node.number m) ≡ settle node.number m = lasts node.state (settle node.number m) round captured in
-    rw stays ((λ i. record { number = its_number i; state = its_state i }), (λ i. record { refused = 0; sent = its_sent i; completed = None }))
+    rw stays ((λ i. record { number = its_number i; state = its_state i }), (λ i. record { refused = 0; sent = its_sent i; invoked = None; completed = None }))
 
 -- ---- taking up new lists
 
@@ -70,7 +70,7 @@ taken_if n m s version same = rw same refl
 pub adopted_moves : (node new : Node MasterState) (version : ℕ) (next : Settled)
     → IsSettledNext node version (next_lists version node.state.phase) (Some next)
     → new.number ≡ node.number → new.state ≡ (settle node.number (taken_up node.state)).state
-    → Makes new (record { refused = 0; sent = next.sent.items; completed = None }) (move_of node (adopted_in node.number node.state version node.state.phase))
+    → Makes new (record { refused = 0; sent = next.sent.items; invoked = None; completed = None }) (move_of node (adopted_in node.number node.state version node.state.phase))
 adopted_moves node new version next is its_number its_state =
     let found = settled_next_is node version (next_lists version node.state.phase) next is in
     let s : Switch = found.0 in
@@ -84,4 +84,4 @@ adopted_moves node new version next is its_number its_state =
     let is : adopted_in node.number m version m.phase ≡ settle node.number (taken_up_in m (Switching s)) =
     ap (adopted_in node.number m version) phase ∙ taken_if node.number m s version same
     in
-    subst (λ (r : Moved MasterState). Makes new (record { refused = 0; sent = next.sent.items; completed = None }) (move_of node r)) (sym is) moves
+    subst (λ (r : Moved MasterState). Makes new (record { refused = 0; sent = next.sent.items; invoked = None; completed = None }) (move_of node r)) (sym is) moves

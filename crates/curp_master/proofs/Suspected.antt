@@ -21,7 +21,7 @@ pub log_length : (m : MasterState) (rs : List Request) → length (treat m rs).l
 log_length m rs = ap (λ (k : MasterState). length k.log) (treat_is m rs) ∙ length-append m.log (news m.lo m.hi m.log rs)
 
 pub none_pushed : (m : Node MasterState) (rs : List Request) → length (news m.state.lo m.state.hi m.state.log rs) ≡ 0
-    → Makes (record m { state = treat m.state rs }) (record { refused = 0; sent = []; completed = None }) (move_of m (treats m.number m.state rs))
+    → Makes (record m { state = treat m.state rs }) (record { refused = 0; sent = []; invoked = None; completed = None }) (move_of m (treats m.number m.state rs))
 none_pushed m rs none =
     let same : (length (treat m.state rs).log == length m.state.log) ≡ true = let long = log_length m.state rs in grind (arith, nat_tests) in
     let kept = kept_in m.state rs in
@@ -49,7 +49,7 @@ past_end last n k at next =
     rw (up, past) refl
 
 pub round_ends : (m : Node MasterState) (rs : List Request) → 1 ≤ length (news m.state.lo m.state.hi m.state.log rs) → m.state.round ≡ last_round
-    → Makes m (record { refused = 0; sent = []; completed = None }) (move_of m (treats m.number m.state rs))
+    → Makes m (record { refused = 0; sent = []; invoked = None; completed = None }) (move_of m (treats m.number m.state rs))
 round_ends m rs some last =
     let kept = kept_in m.state rs in
     let ends : rises_past last_round m.state.round ((treat m.state rs).round + 1) ≡ true = past_end last_round m.state.round _ last (ap (λ (k : ℕ). k + 1) kept.0) in
@@ -57,7 +57,7 @@ round_ends m rs some last =
 
 pub round_begins : (m : Node MasterState) (rs : List Request) (number : ℕ) (sent : List Message) → 1 ≤ length (news m.state.lo m.state.hi m.state.log rs)
     → number ≡ m.state.round + 1 → number ≤ last_round → sent ≡ appends m.number (at_round m.state (m.state.round + 1) (news m.state.lo m.state.hi m.state.log rs))
-    → Makes (record m { state = record (treat m.state rs) { round = number } }) (record { refused = 0; sent = sent; completed = None }) (move_of m (treats m.number m.state rs))
+    → Makes (record m { state = record (treat m.state rs) { round = number } }) (record { refused = 0; sent = sent; invoked = None; completed = None }) (move_of m (treats m.number m.state rs))
 round_begins m rs number sent some next low said =
     let kept = kept_in m.state rs in
     let its : number ≡ (treat m.state rs).round + 1 = next ∙ ap (λ (k : ℕ). k + 1) (sym kept.0) in
@@ -65,4 +65,4 @@ round_begins m rs number sent some next low said =
     let read : rises_past last_round m.state.captured (treat m.state rs).captured ≡ false = never_rises last_round m.state.captured _ kept.1 in
     let same : sent ≡ appends m.number (next_round (treat m.state rs)) = said ∙ ap (λ (k : MasterState). appends m.number (next_round k)) (sym (treat_is m.state rs)) in
     rw (begun m.state m.number rs some, on, read)
-    (ap (λ (k : ℕ). record m { state = record (treat m.state rs) { round = k } }) its, ap (λ (xs : List Message). record { refused = 0; sent = xs; completed = None }) same)
+    (ap (λ (k : ℕ). record m { state = record (treat m.state rs) { round = k } }) its, ap (λ (xs : List Message). record { refused = 0; sent = xs; invoked = None; completed = None }) same)

@@ -11,8 +11,8 @@ use Rattle.curp_msg.specs.declared.answer.FenceReply.{FenceReply}
 use Rattle.curp_msg.specs.declared.answer.FenceReply.TheVariants as reply
 use Rattle.curp_msg.specs.declared.body.Body.{Body}
 use Rattle.curp_msg.specs.declared.body.Body.TheVariants.{Append, Appended, Install, Fence, FenceAnswer}
-use Rattle.curp_msg.specs.declared.machine.Input.{Input}
-use Rattle.curp_msg.specs.declared.machine.Input.TheVariants as input
+use Rattle.curp_msg.specs.Input.{Input}
+use Rattle.curp_msg.specs.Input as input
 
 -- the epoch at which it is installed, if it is
 pub record BackupState : Type 0 where

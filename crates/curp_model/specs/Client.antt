@@ -14,7 +14,7 @@ use Rattle.curp_cmd.specs.declared.command.Command.{Command}
 use Rattle.curp_cmd.specs.declared.command.Request.{Request}
 use Rattle.curp_cmd.specs.declared.command.RequestId.{RequestId}
 use Rattle.curp_cmd.specs.declared.node.NodeId.{NodeId}
-use Rattle.curp_msg.specs.Moved.{Moved, quiet, sends, completes, unless_refused, says, says_each}
+use Rattle.curp_msg.specs.Moved.{Moved, quiet, sends, invokes, completes, unless_refused, says, says_each}
 use Rattle.curp_msg.specs.declared.body.Accepted.{Accepted}
 use Rattle.curp_msg.specs.declared.body.Body.{Body}
 use Rattle.curp_msg.specs.declared.body.Body.TheVariants as body
@@ -23,8 +23,8 @@ use Rattle.curp_msg.specs.declared.body.Worth.{Worth}
 use Rattle.curp_msg.specs.declared.config.Config.{Config}
 use Rattle.curp_msg.specs.declared.config.PartConfig.{PartConfig}
 use Rattle.curp_msg.specs.declared.machine.Capture.{Capture}
-use Rattle.curp_msg.specs.declared.machine.Input.{Input}
-use Rattle.curp_msg.specs.declared.machine.Input.TheVariants as input
+use Rattle.curp_msg.specs.Input.{Input}
+use Rattle.curp_msg.specs.Input as input
 use Rattle.curp_msg.specs.declared.machine.Local.{Local}
 use Rattle.curp_msg.specs.declared.machine.Local.TheVariants as local
 use Rattle.curp_msg.specs.declared.message.Message.{Message}
@@ -140,8 +140,9 @@ next_request n c command = record { id = next_id n c; first = first_pending c (c
 
 -- a new request is pending, and is sent for the first time
 abbrev pub sends_first : ℕ → ClientState → Request → PartConfig → Moved ClientState
-sends_first n c r p = sends
+sends_first n c r p = invokes
     (record c { last = r.id.seq; pending = c.pending ++ record { request = r; attempts = attempt_at p ∷ []; asked = false; early = []; accepts = []; glimpses = []; lives = [] } ∷ [] })
+    r
     (sent_by n c.fast c.protocol (is_update r.command) r p)
 
 -- where a new request goes, or the number of the refusal: 1 (TooMany) where 8 are pending, 2 (Numbers) where the numbers are at

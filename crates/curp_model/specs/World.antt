@@ -18,8 +18,8 @@ use Rattle.curp_msg.specs.Limits.{weight_limit}
 use Rattle.curp_msg.specs.Moved.{Moved, quiet, within}
 use Rattle.curp_msg.specs.Weight.{weight_of}
 use Rattle.curp_msg.specs.declared.machine.Completed.{Completed}
-use Rattle.curp_msg.specs.declared.machine.Input.{Input}
-use Rattle.curp_msg.specs.declared.machine.Input.TheVariants as input
+use Rattle.curp_msg.specs.Input.{Input}
+use Rattle.curp_msg.specs.Input as input
 use Rattle.curp_msg.specs.declared.machine.Local.{Local}
 use Rattle.curp_msg.specs.declared.machine.Local.TheVariants as local
 use Rattle.curp_msg.specs.declared.message.Message.{Message}

@@ -1,12 +1,12 @@
--- A small node, as an example of a machine, and runs of any node.
+-- A small node, as an example of a machine.
 use Rattle.std.proofs.Common.{arith, refl}
-use Rattle.std.specs.Prelude.{◌≡◌, ℕ, max, List, [], ◌∷◌}
+use Rattle.std.specs.Prelude.{◌≡◌, ℕ, max, [], ◌∷◌}
 use Rattle.curp_cmd.specs.declared.node.NodeKind.TheVariants.{Client, Manager}
 use Rattle.curp_msg.specs.Moved.{Moved, Refuses, not_refused, refused_by, says, quiet, sends, refuses}
 use Rattle.curp_msg.specs.declared.body.Body.{Body}
 use Rattle.curp_msg.specs.declared.body.Body.TheVariants as body
-use Rattle.curp_msg.specs.declared.machine.Input.{Input}
-use Rattle.curp_msg.specs.declared.machine.Input.TheVariants as input
+use Rattle.curp_msg.specs.Input.{Input}
+use Rattle.curp_msg.specs.Input as input
 use Rattle.curp_msg.specs.declared.machine.Local.{Local}
 use Rattle.curp_msg.specs.declared.machine.Local.TheVariants as local
 use Rattle.curp_msg.specs.declared.message.Message.{Message}
@@ -29,11 +29,6 @@ heard serial _ = quiet serial
 unfoldable pub asker : ℕ → Input → Moved ℕ
 asker serial (input.Local order) = ordered serial order
 asker serial (input.Message message) = heard serial message.body
-
--- the state of a node after inputs
-abbrev pub state_after : {S : Type 0} → (S → Input → Moved S) → S → List Input → S
-state_after machine s [] = s
-state_after machine s (i ∷ more) = state_after machine (machine s i).state more
 
 -- ---- its laws
 

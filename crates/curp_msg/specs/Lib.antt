@@ -1,4 +1,5 @@
 pub mod Example
+pub mod Input
 pub mod Limits
 pub mod Moved
 pub mod Text

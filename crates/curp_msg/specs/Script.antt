@@ -1,5 +1,5 @@
 -- What a script is: the ranges of its header, and what a step may name.
-use Rattle.std.specs.Prelude.{◌≡◌, ◌≤◌, List, ⊤}
+use Rattle.std.specs.Prelude.{◌≤◌, List, ⊤}
 use Rattle.curp_base.specs.Words.{Each}
 use Rattle.curp_cmd.specs.Store.{NamesKey}
 use Rattle.curp_msg.specs.declared.script.Header.{Header}

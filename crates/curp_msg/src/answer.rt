@@ -34,7 +34,7 @@ pub enum Reason {
     Frozen,
     /// It was started with another epoch.
     Stranger { epoch: u32 },
-    /// It wasn't started.
+    /// It was neither started nor frozen.
     Idle,
 }
 

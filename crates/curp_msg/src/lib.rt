@@ -6,11 +6,11 @@
 //! - `weight`: exact over `specs/Weight.antt`: 1, and 1 more for each entry, pair, record, id, partition and range that
 //!   a message carries; it stands still at 2^64 - 1.
 //! - `Core`, the trait of nodes. Its ghost member `machine` says which machine a node is, a function from a state and
-//!   an input to a move: the state after, what is sent, what completes, and the number of a refusal. `on_message` takes
-//!   a message by reference, `on_order` an order, `on` either; each is exact over the machine by the one word `Moves`,
-//!   and out of memory the node is as before. An order that is refused needs no memory. Its laws: a refusal's
-//!   number is below 255, a refused order changes, sends and completes nothing, and a message is never refused. A
-//!   message has at most 80 bytes, beside its boxes.
+//!   an input to a move: the state after, what is sent, what is invoked, what completes, and the number of a refusal.
+//!   `on_message` takes a message by reference, `on_order` an order, `on` either (`Input`); each is exact over the
+//!   machine by the one word `Moves`, and out of memory the node is as before. An order that is refused needs no memory.
+//!   Its laws: a refusal's number is below 255, a refused order changes, sends, invokes and completes nothing, and a
+//!   message is never refused. A message has at most 80 bytes, beside its boxes.
 #![tactic(auto)]
 
 mod answer;

@@ -2,7 +2,7 @@ ghost use Rattle.std.specs.Prelude.{◌≡◌, ◌≢◌, [], Some, None, IsOk, 
 
 use crate::Message;
 use curp_base::{Items, NoMemory, Shared};
-use curp_cmd::{Answer, Command, Keeper, NodeId, RequestId};
+use curp_cmd::{Answer, Command, Keeper, NodeId, Request, RequestId};
 use std::alloc::Global;
 
 /// An order that a node gets from whoever runs it, and not by a message. A node ignores those that aren't its own.
@@ -111,19 +111,11 @@ impl Local {
     }
 }
 
-/// What a node reacts to.
-pub enum Input {
-    Local(Local),
-    Message(Message),
-}
-
-impl Drop for Input {
-    fn drop(self) {
-        match self {
-            Input::Local(_) => {}
-            Input::Message(_) => {}
-        }
-    }
+/// What a node reacts to: an order, or a message that comes to it.
+#[derive(Clone, Copy)]
+pub enum Input<'a> {
+    Local(&'a Local),
+    Message(&'a Message),
 }
 
 /// What a node does on an input, apart from its new state.
@@ -133,6 +125,8 @@ pub struct Done {
     pub refused: u8,
     /// The messages that it sends, in their order.
     pub sent: Items<Message>,
+    /// The request that it invokes.
+    pub invoked: Option<Shared<Request>>,
     /// The request that it completes.
     pub completed: Option<Completed>,
 }
@@ -140,40 +134,55 @@ pub struct Done {
 impl Done {
     /// The node does nothing that others see. It takes no memory.
     pub fn quiet(alloc: Global) -> Done
-        ensures { result ≡ record { refused = 0; sent = []; completed = None } }
+        ensures { result ≡ record { refused = 0; sent = []; invoked = None; completed = None } }
     {
         Done::sends(Vec::new(alloc))
     }
 
     /// It sends these messages. It takes no memory.
     pub fn sends(messages: Vec<Message>) -> Done
-        ensures { result ≡ record { refused = 0; sent = messages.items; completed = None } }
+        ensures { result ≡ record { refused = 0; sent = messages.items; invoked = None; completed = None } }
     {
         Done {
             refused: 0,
             sent: Items::new(messages),
+            invoked: None,
+            completed: None,
+        }
+    }
+
+    /// It invokes a request, which it sends by these messages. It takes no memory.
+    pub fn invokes(request: Shared<Request>, messages: Vec<Message>) -> Done
+        ensures { result ≡ record { refused = 0; sent = messages.items; invoked = Some request; completed = None } }
+    {
+        Done {
+            refused: 0,
+            sent: Items::new(messages),
+            invoked: Some(request),
             completed: None,
         }
     }
 
     /// A request completes. It takes no memory.
     pub fn completes(alloc: Global, completed: Completed) -> Done
-        ensures { result ≡ record { refused = 0; sent = []; completed = Some completed } }
+        ensures { result ≡ record { refused = 0; sent = []; invoked = None; completed = Some completed } }
     {
         Done {
             refused: 0,
             sent: Items::new(Vec::new(alloc)),
+            invoked: None,
             completed: Some(completed),
         }
     }
 
     /// It refuses an order, by a number. It takes no memory.
     pub fn refuses(alloc: Global, number: u8) -> Done
-        ensures { result ≡ record { refused = number; sent = []; completed = None } }
+        ensures { result ≡ record { refused = number; sent = []; invoked = None; completed = None } }
     {
         Done {
             refused: number,
             sent: Items::new(Vec::new(alloc)),
+            invoked: None,
             completed: None,
         }
     }
@@ -200,8 +209,8 @@ pub struct Capture {
 /// A node: it reacts to one input at a time, and holds no handle and no lock. One input completes at most one request.
 pub trait Core {
     ghost use Rattle.curp_msg.specs.Moved.{Moved, Moves, Refuses};
-    ghost use Rattle.curp_msg.specs.declared.machine.Input.{Input};
-    ghost use Rattle.curp_msg.specs.declared.machine.Input.TheVariants as input;
+    ghost use Rattle.curp_msg.specs.Input.{Input, input_of};
+    ghost use Rattle.curp_msg.specs.Input as input;
     ghost use Rattle.curp_msg.specs.declared.machine.Local.{Local};
     ghost use Rattle.curp_msg.specs.declared.message.Message.{Message};
 
@@ -218,9 +227,9 @@ pub trait Core {
         ensures refused { (machine self.old (input.Local order.now)).refused ≢ 0 → IsOk result };
 
     /// Gives the node an input.
-    fn on(&mut self, input: &Input) -> Result<Done, NoMemory>
-        ensures moves { Moves self.old self.new result (machine self.old input.now) }
-        ensures refused { (machine self.old input.now).refused ≢ 0 → IsOk result }
+    fn on(&mut self, input: Input) -> Result<Done, NoMemory>
+        ensures moves { Moves self.old self.new result (machine self.old (input_of input.entry)) }
+        ensures refused { (machine self.old (input_of input.entry)).refused ≢ 0 → IsOk result }
     {
         match input {
             Input::Local(order) => self.on_order(order),

@@ -10,7 +10,7 @@ use Rattle.curp_msg.specs.Moved.{Moved, Moves, Node, numbered_move, quiet, withi
 use Rattle.curp_msg.specs.declared.body.Body.{Body}
 use Rattle.curp_msg.specs.declared.body.Body.TheVariants as body
 use Rattle.curp_msg.specs.declared.machine.Done.{Done}
-use Rattle.curp_msg.specs.declared.machine.Input.TheVariants as input
+use Rattle.curp_msg.specs.Input as input
 use Rattle.curp_msg.specs.declared.message.Message.{Message}
 use Rattle.curp_recover.specs.Heard.{is_serving, recovery_in, unadopted}
 use Rattle.curp_nodes.specs.Machines.{master_machine}

@@ -1,6 +1,6 @@
 -- The machines of masters, backups and witnesses: what an input does to them.
 use Rattle.curp_msg.specs.Moved.{Moved, Node, numbered_move}
-use Rattle.curp_msg.specs.declared.machine.Input.{Input}
+use Rattle.curp_msg.specs.Input.{Input}
 use Rattle.curp_model.specs.Backup.{BackupState, backup_input}
 use Rattle.curp_model.specs.Recovery.{MasterStage, master_input}
 use Rattle.curp_model.specs.Witness.{WitnessState, witness_input}

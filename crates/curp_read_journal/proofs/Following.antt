@@ -15,7 +15,7 @@ use Rattle.curp_journal.specs.declared.arrived.Arrived.{Arrived}
 use Rattle.curp_journal.specs.declared.item.Item.{Item}
 use Rattle.curp_journal.proofs.Replays.{after-snoc, last_stamp-snoc}
 use Rattle.curp_msg.specs.Moved.{Moved}
-use Rattle.curp_msg.specs.declared.machine.Input.{Input}
+use Rattle.curp_msg.specs.Input.{Input}
 use Rattle.curp_read_journal.specs.Items.{item_in, items_in, items_of, log_of}
 
 pub items-push : (answers : List Answered) (a : Answered) → items_in (answers ++ a ∷ []) ≡ items_in answers ++ item_in a

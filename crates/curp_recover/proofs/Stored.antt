@@ -41,7 +41,7 @@ abbrev pub at : Recover → RecoveryPhase → RecoveryState
 at o p = record { order = o; phase = p }
 
 abbrev pub sent_out : List Message → Done
-sent_out told = record { refused = 0; sent = told; completed = None }
+sent_out told = record { refused = 0; sent = told; invoked = None; completed = None }
 
 -- what waits for all backups, and what is said, by whether all have it
 pub completed_is : (n : ℕ) (o : Recover) (x : ReplayedLog) (w : Replayed) (waits : Awaited) (told : List Message) → replayed_of x ≡ w

@@ -26,5 +26,5 @@ unadopted n s from b = within (recovery_in s) (on_master n (Recovering s) from b
 -- what isn't waited for is heard, and does nothing
 abbrev pub heard : Result Done RecoveryError → Result Done AllocError
 heard (Ok done) = Ok done
-heard (Err (error.Ignored told)) = Ok (record { refused = 0; sent = []; completed = None })
+heard (Err (error.Ignored told)) = Ok (record { refused = 0; sent = []; invoked = None; completed = None })
 heard (Err error.NoMemory) = Err (record {})

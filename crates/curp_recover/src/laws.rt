@@ -10,7 +10,7 @@ ghost use Rattle.curp_model.specs.Recovery.{Fresh, Recovering, RecoveryState, Re
 ghost use Rattle.curp_model.specs.Recovery.{freeze_of, master_input, on_master, recovered_message};
 ghost use Rattle.curp_msg.specs.declared.body.Body.TheVariants as body;
 ghost use Rattle.curp_msg.specs.declared.body.Recover.{Recover};
-ghost use Rattle.curp_msg.specs.declared.machine.Input.{Input};
+ghost use Rattle.curp_msg.specs.Input.{Input};
 ghost use Rattle.curp_recover.specs.Reports.{IsLastStored, IsReport, IsWhole, StoredAnswer, after_stored, all_stored};
 ghost use Rattle.curp_recover.specs.Reports.{answered, log_answer, ordered, replayed_log, stored_answer};
 

@@ -1,7 +1,7 @@
 -- Giving a node the inputs of a journal again.
 use Rattle.std.proofs.Common.{◌≡◌, ℕ, List, [], ◌∷◌, refl, ap}
 use Rattle.curp_msg.specs.Moved.{Moved}
-use Rattle.curp_msg.specs.declared.machine.Input.{Input}
+use Rattle.curp_msg.specs.Input.{Input}
 use Rattle.curp_journal.specs.Given.{given}
 use Rattle.curp_journal.specs.Journal.{IsJournal, IsReplay, Stamped, after, made, next_stamp, replayed}
 use Rattle.curp_journal.specs.declared.item.Item.{Item}

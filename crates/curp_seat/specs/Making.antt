@@ -1,7 +1,7 @@
 -- A journal with the item that an input makes, and what a node does by the inputs of items (this project's own).
 use Rattle.std.specs.Prelude.{◌≡◌, ◌≢◌, ◌⊎◌, ◌^◌, ◌≤◌, List, ◌++◌, ◌∷◌, [], ⊤}
 use Rattle.curp_msg.specs.Moved.{Moved, done_of}
-use Rattle.curp_msg.specs.declared.machine.Input.{Input}
+use Rattle.curp_msg.specs.Input.{Input}
 use Rattle.curp_journal.specs.Given.{given}
 use Rattle.curp_journal.specs.Journal.{NodeJournal, after, last_stamp, made, next_stamp}
 use Rattle.curp_journal.specs.declared.arrived.Arrived.{Arrived}

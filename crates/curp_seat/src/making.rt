@@ -43,8 +43,5 @@ pub(crate) fn made<N: Core>(
 pub(crate) fn give<N: Core>(node: &mut N, arrived: &Arrived) -> Result<Done, NoMemory>
     ensures moves { Moves node.old node.new result (N.machine node.old (given arrived.now)) }
 {
-    match arrived {
-        Arrived::Local(order, _) => node.on_order(order),
-        Arrived::Message(named) => node.on_message(&named.message),
-    }
+    node.on(arrived.given())
 }

@@ -27,6 +27,7 @@ fn is_same(one: &Done, other: &Done) -> bool
 {
     one.refused == other.refused
         && one.sent.same(&other.sent)
+        && one.invoked.same(&other.invoked)
         && completes_same(&one.completed, &other.completed)
 }
 

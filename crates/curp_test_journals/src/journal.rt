@@ -47,9 +47,8 @@ fn items_are_copied(rt: HostRuntime) {
 }
 
 // A node gets the message, or the order to sync, and it has that stamp.
-fn try_given(rt: &impl Abort, alloc: Global, came: Arrived, is_message: bool, stamp: u64) {
-    let input = came.given(alloc).expect(rt, "no memory");
-    let is_given = match &input {
+fn try_given(rt: &impl Abort, came: Arrived, is_message: bool, stamp: u64) {
+    let is_given = match came.given() {
         Input::Message(
             Message {
                 body: Body::Fetch,
@@ -61,12 +60,11 @@ fn try_given(rt: &impl Abort, alloc: Global, came: Arrived, is_message: bool, st
     };
     assert!(rt; is_given);
     assert!(rt; came.stamp() == stamp);
-    drop(input);
     drop(came);
 }
 
 #[test]
 fn messages_and_orders_are_given(rt: HostRuntime) {
-    try_given(&rt, rt.alloc(), came(), true, 7);
-    try_given(&rt, rt.alloc(), Arrived::Local(Local::Sync, 5), false, 5);
+    try_given(&rt, came(), true, 7);
+    try_given(&rt, Arrived::Local(Local::Sync, 5), false, 5);
 }

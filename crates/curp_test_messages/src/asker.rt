@@ -1,8 +1,8 @@
 // A node, and calls over any node.
 ghost use Rattle.std.specs.Prelude.{◌≡◌, ◌≢◌, ◌<◌, [], None, OnOk, IfOk, length};
-ghost use Rattle.curp_msg.specs.Example.{state_after, fetch_message};
+ghost use Rattle.curp_msg.specs.Example.{fetch_message};
 ghost use Rattle.curp_msg.specs.Moved.{MovesAt};
-ghost use Rattle.curp_msg.specs.declared.machine.Input.TheVariants as input;
+ghost use Rattle.curp_msg.specs.Input as input;
 
 use curp_base::{Items, NoMemory};
 use curp_cmd::{NodeId, NodeKind};
@@ -70,11 +70,12 @@ impl Core for Asker {
 }
 
 fn done(refused: u8, sent: Vec<Message>) -> Done
-    ensures { result ≡ record { refused = refused; sent = sent.items; completed = None } }
+    ensures { result ≡ record { refused = refused; sent = sent.items; invoked = None; completed = None } }
 {
     Done {
         refused,
         sent: Items::new(sent),
+        invoked: None,
         completed: None,
     }
 }
@@ -95,14 +96,9 @@ fn fetch_message() -> Message
     }
 }
 
-// Gives any node inputs, one after the other.
-pub(crate) fn give_all<N: Core>(node: &mut N, inputs: &[Input]) -> Result<(), NoMemory>
-    ensures { OnOk result (node.new ≡ state_after N.machine node.old inputs.now) }
-{
-    for input in inputs {
-        node.on(input)?;
-    }
-    Ok(())
+// Gives any node an input.
+pub(crate) fn give_one<N: Core>(node: &mut N, input: Input) -> Result<Done, NoMemory> {
+    node.on(input)
 }
 
 // Gives any node an order. Where it refuses, nothing has changed and nothing is sent.

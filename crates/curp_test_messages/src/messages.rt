@@ -1,6 +1,6 @@
 //! Messages are copied whole and weigh what they carry, and any node takes inputs.
 
-use crate::asker::{Asker, give, give_all, order};
+use crate::asker::{Asker, give, give_one, order};
 use crate::build::{id, key, must, request, right, right_at, shared, times, value};
 use crate::carried::{config, entries, nodes, op, parcel, put_two, recover};
 use curp_base::Items;
@@ -37,20 +37,15 @@ fn try_order(rt: &impl Abort, asker: &mut Asker, local: &Local, refused: u8, sen
     drop(done);
 }
 
-fn inputs(rt: &impl Abort, alloc: Global) -> Vec<Input> {
-    let mut inputs = Vec::new(alloc);
-    for serial in [1, 3, 2] {
-        must(rt, inputs.push(Input::Message(tells(rt, alloc, serial))));
-    }
-    inputs
-}
-
 #[test]
 fn any_node_takes_inputs(rt: HostRuntime) {
-    let inputs = inputs(&rt, rt.alloc());
     let mut asker = Asker::new(rt.alloc());
-    must(&rt, give_all(&mut asker, &inputs));
-    drop(inputs);
+    for serial in [1, 3, 2] {
+        let message = tells(&rt, rt.alloc(), serial);
+        let done = must(&rt, give_one(&mut asker, Input::Message(&message)));
+        drop(done);
+        drop(message);
+    }
     right(&rt, asker.serial() == 3, "any node takes inputs");
     try_order(&rt, &mut asker, &Local::Fetch, 0, 1);
     try_order(&rt, &mut asker, &Local::Sync, 1, 0);

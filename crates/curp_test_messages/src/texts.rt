@@ -51,7 +51,7 @@ fn messages_have_texts(rt: HostRuntime) {
     shows(
         &rt,
         alloc,
-        &Input::Message(message),
+        &Input::Message(&message),
         "C1 M1 update 1.1 f1 e1 v1 put 61 31",
     );
 }
@@ -62,7 +62,7 @@ fn orders_have_texts(rt: HostRuntime) {
     let command = must(&rt, Shared::of(alloc, &put(&rt)));
     shows(&rt, alloc, &Local::Invoke(command), "invoke put 61 31");
     shows(&rt, alloc, &Local::Retry(2), "retry 2");
-    shows(&rt, alloc, &Input::Local(Local::Sync), "sync");
+    shows(&rt, alloc, &Input::Local(&Local::Sync), "sync");
     let recover = Local::Recover {
         part: 1,
         backup: 2,
@@ -107,6 +107,7 @@ fn what_nodes_do_has_a_text(rt: HostRuntime) {
     let done = Done {
         refused: 0,
         sent: Items::new(sent),
+        invoked: None,
         completed: None,
     };
     shows(

@@ -1,4 +1,5 @@
 ghost use Rattle.std.specs.Prelude.{Some, flat_map};
+ghost use Rattle.curp_msg.specs.Input.{input_of};
 ghost use Rattle.curp_msg.specs.Text.{done_text, input_text, keeper_text, local_text, refused_text, sent_text, then_completed};
 
 use crate::text::lists::Span;
@@ -50,8 +51,8 @@ impl fmt::Display for KeeperName {
 }
 
 /// The order, or the message.
-impl fmt::Display for Input {
-    ghost output = { λ input. Some (input_text input) };
+impl fmt::Display for Input<'_> {
+    ghost output = { λ input. Some (input_text (input_of input)) };
 
     fn fmt<W: fmt::Write>(&self, f: &mut fmt::Formatter<W>) -> fmt::Result {
         match self {
@@ -68,7 +69,7 @@ impl fmt::Debug for Local {
     }
 }
 
-impl fmt::Debug for Input {
+impl fmt::Debug for Input<'_> {
     fn fmt<W: fmt::Write>(&self, f: &mut fmt::Formatter<W>) -> fmt::Result {
         let input = self;
         write!(f, "Input({input})")

@@ -2,7 +2,7 @@ use Rattle.std.proofs.Common.{suc, refl}
 use Rattle.curp_msg.specs.declared.script.Step.TheVariants as steps
 use Rattle.curp_model.specs.World.{step}
 use Rattle.curp_cmd.specs.Node.{manager_node}
-use Rattle.curp_msg.specs.declared.machine.Input.TheVariants as input
+use Rattle.curp_msg.specs.Input as input
 use Rattle.curp_msg.specs.declared.machine.Local.TheVariants as local
 use Rattle.curp_law_served.proofs.RenewStarts.{begins_renewal}
 use Rattle.curp_law_served.proofs.Starts.{gave}

@@ -19,7 +19,7 @@ returns-clause-moves c =
       gone = c.self.inside.gone.keys;
       next = c.self.inside.next;
     } in
-    let done : List Message → Done = λ (messages : List Message). record { refused = 0; sent = messages; completed = None } in
+    let done : List Message → Done = λ (messages : List Message). record { refused = 0; sent = messages; invoked = None; completed = None } in
     rw (expire_made c.args.self.now c.args.client known c.in_ok-known.ensures.ok) (
       ap (λ (gone : List ℕ). record g { gone = gone }) c.in_ok-note.ensures.ok ∙ ap (λ (h : ManagerState). record h { gone = insert_key nat_cmp h.gone known }) c.self.view_is,
       c.sends.ensures ∙ ap done c.in_ok-messages.ensures,

@@ -25,7 +25,7 @@ returns-clause-moves c =
     let o = c.in_ok-owner.ensures.ordered in
     let owner = c.in_ok-owner.owner.now in
     let target = c.in_ok-owner.target.now in
-    let done : List Message → Done = λ (messages : List Message). record { refused = 0; sent = messages; completed = None } in
+    let done : List Message → Done = λ (messages : List Message). record { refused = 0; sent = messages; invoked = None; completed = None } in
     rw (migrate_made g c.args.lo c.args.hi c.args.to _ (c.in_ok-owner.ensures.ok o) c.in-Some.ensures.1) (
       move_made g c.args.lo c.args.hi o _ c.fresh_migration-number.result owner target c.fresh_migration-number.ensures _ c.in-Some.next c.self.view_is c.in-Some.ensures.0,
       c.sends.ensures

@@ -1,7 +1,7 @@
 use Rattle.std.proofs.Common.{◌≡◌, ap, sym, subst, ◌∙◌}
 use Rattle.curp_model.specs.Recovery.{MasterStage}
 use Rattle.curp_msg.specs.Moved.{Moves, Node}
-use Rattle.curp_msg.specs.declared.machine.Input.TheVariants as input
+use Rattle.curp_msg.specs.Input as input
 use Rattle.curp_nodes.specs.Machines.{master_machine}
 use Rattle.curp_nodes.specs.Stages.{node_of}
 use Rattle.curp_nodes.proofs.Adoptions.{recovering, recovering_moves}
