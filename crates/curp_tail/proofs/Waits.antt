@@ -1,8 +1,12 @@
 -- The ids in their order, with their lengths, as ids come and leave.
-use Rattle.std.proofs.Common.{◌≡◌, ℕ, ◌||◌, ◌&&◌, nat_le, max, Bool, true, false, cond, not, List, [], ◌∷◌, ◌++◌, map, Option, Some, None, is_some, unwrap_or, refl, ap, sym, ◌∙◌, subst}
-use Rattle.std.specs.FinMap.Entries.{find, find-put, is_sorted-put, put}
+use Rattle.std.proofs.Common.{◌≡◌, ℕ, ◌+◌, ◌≤◌, ◌||◌, ◌&&◌, nat_le, max, Bool, true, false, cond, not, T, List, [], ◌∷◌, ◌++◌, length, map, Option, Some, None, is_some, unwrap_or, refl, ap, sym, ◌∙◌, subst, arith}
+use Rattle.std.proofs.lemmas.List.{length-map}
+use Rattle.std.specs.FinMap.Entries.{below_all, find, find-put, is_sorted-put, put}
 use Rattle.std.specs.List.{filter}
-use Rattle.curp_base.specs.Words.{Each}
+use Rattle.std.specs.Ordering.{eq_by_cmp, is_eq, is_lt}
+use Rattle.std.specs.declared.cmp.Ordering.TheVariants.{Less}
+use Rattle.curp_base.specs.Words.{Each, KeysAscend}
+use Rattle.curp_base.proofs.Rising.{is_less, left, right}
 use Rattle.curp_base.proofs.Values.{ascend_passing, find_passing, passing}
 use Rattle.curp_cmd.proofs.Ids.{same_id-self, same_id-true, tied_same}
 use Rattle.curp_cmd.specs.RequestId.{has_id, id_cmp, same_id}
@@ -247,3 +251,83 @@ module _ (order : List RequestId) (ws : Waits) (q : IsQueue order ws) (id : Requ
 
   pub joined_is : (long : ℕ) → find id_cmp id ws ≡ None → waiting_of (order ++ id ∷ []) (put id_cmp id long ws) ≡ queued (waiting_of order ws) id long
   joined_is long none = joined order ws (put id_cmp id long ws) id long (q.same id ∙ ap is_some none) (length_put ws id long) (length_other ws id long)
+
+-- ---- how many wait
+
+not_both : (b : Bool) → b ≡ true → b ≡ false → ⊥
+not_both true e f = absurd cc
+not_both false e f = absurd cc
+
+none_alike : (id : RequestId) (ws : Waits) (x : RequestId × ℕ) → T (below_all id_cmp x.0 ws) → same_id x.0 id ≡ true → length (filter (λ (w : RequestId × ℕ). same_id w.0 id) ws) ≤ 0
+none_alike id [] x below same = omega arith
+none_alike id (w ∷ ws) x below same = go (same_id w.0 id) refl (none_alike id ws x (right _ _ below) same)
+  where
+    go : (b : Bool) → same_id w.0 id ≡ b → length (filter (λ (v : RequestId × ℕ). same_id v.0 id) ws) ≤ 0 → length (cond b (w ∷ filter (λ (v : RequestId × ℕ). same_id v.0 id) ws) (filter (λ (v : RequestId × ℕ). same_id v.0 id) ws)) ≤ 0
+    go true e rest =
+        let one : x.0 ≡ w.0 = same_id-true x.0 id same ∙ sym (same_id-true w.0 id e) in
+        let less : id_cmp x.0 w.0 ≡ Less = is_less (id_cmp x.0 w.0) (left (is_lt (id_cmp x.0 w.0)) (below_all id_cmp x.0 ws) below) in
+        let tied : eq_by_cmp id_cmp x.0 w.0 ≡ true = tied_same x.0 w.0 ∙ subst (λ (y : RequestId). same_id x.0 y ≡ true) one (same_id-self x.0) in
+        let apart : eq_by_cmp id_cmp x.0 w.0 ≡ false = ap is_eq less in
+        absurd (not_both (eq_by_cmp id_cmp x.0 w.0) tied apart)
+    go false e rest = rest
+
+-- no id has two lengths
+one_alike : (id : RequestId) (ws : Waits) → KeysAscend id_cmp ws → length (filter (λ (w : RequestId × ℕ). same_id w.0 id) ws) ≤ 1
+one_alike id [] ascend = omega arith
+one_alike id (w ∷ ws) ascend = go (same_id w.0 id) refl (one_alike id ws (right _ _ ascend))
+  where
+    go : (b : Bool) → same_id w.0 id ≡ b → length (filter (λ (v : RequestId × ℕ). same_id v.0 id) ws) ≤ 1 → length (cond b (w ∷ filter (λ (v : RequestId × ℕ). same_id v.0 id) ws) (filter (λ (v : RequestId × ℕ). same_id v.0 id) ws)) ≤ 1
+    go true e rest = omega (arith, none_alike id ws w (left _ _ ascend) e)
+    go false e rest = rest
+
+either_counted : {A : Type 0} (p q : A → Bool) (xs : List A) → length (filter (λ x. p x || q x) xs) ≤ length (filter p xs) + length (filter q xs)
+either_counted p q [] = omega arith
+either_counted p q (x ∷ xs) = go (p x) (q x) (either_counted p q xs)
+  where
+    go : (a b : Bool) → length (filter (λ x. p x || q x) xs) ≤ length (filter p xs) + length (filter q xs)
+        → length (cond (a || b) (x ∷ filter (λ x. p x || q x) xs) (filter (λ x. p x || q x) xs)) ≤ length (cond a (x ∷ filter p xs) (filter p xs)) + length (cond b (x ∷ filter q xs) (filter q xs))
+    go true true rest = omega (arith, rest)
+    go true false rest = omega (arith, rest)
+    go false true rest = omega (arith, rest)
+    go false false rest = rest
+
+none_counted : {A : Type 0} (xs : List A) → length (filter (λ x. false) xs) ≤ 0
+none_counted [] = omega arith
+none_counted (x ∷ xs) = none_counted xs
+
+-- those that are among some ids are no more than these
+among_counted : (order : List RequestId) (ws : Waits) → KeysAscend id_cmp ws → length (filter (λ (w : RequestId × ℕ). has_id w.0 order) ws) ≤ length order
+among_counted [] ws ascend = none_counted ws
+among_counted (x ∷ order) ws ascend =
+    omega (arith, either_counted (λ (w : RequestId × ℕ). same_id w.0 x) (λ (w : RequestId × ℕ). has_id w.0 order) ws, one_alike x ws ascend, among_counted order ws ascend)
+
+all_counted : {A : Type 0} (p : A → Bool) (xs : List A) → Each (λ x. p x ≡ true) xs → filter p xs ≡ xs
+all_counted p [] all = refl
+all_counted p (x ∷ xs) all = rw all.0 (ap (λ ys. x ∷ ys) (all_counted p xs all.1))
+
+found_more : (w : RequestId × ℕ) (ws vs : Waits) → Each (λ (v : RequestId × ℕ). is_some (find id_cmp v.0 ws) ≡ true) vs → Each (λ (v : RequestId × ℕ). is_some (find id_cmp v.0 (w ∷ ws)) ≡ true) vs
+found_more w ws [] each = tt
+found_more w ws (v ∷ vs) each = (go (eq_by_cmp id_cmp v.0 w.0), found_more w ws vs each.1)
+  where
+    go : (b : Bool) → is_some (cond b (Some w.1) (find id_cmp v.0 ws)) ≡ true
+    go true = refl
+    go false = each.0
+
+each_found : (ws : Waits) → Each (λ (v : RequestId × ℕ). is_some (find id_cmp v.0 ws) ≡ true) ws
+each_found [] = tt
+each_found (w ∷ ws) =
+    let tied : eq_by_cmp id_cmp w.0 w.0 ≡ true = tied_same w.0 w.0 ∙ same_id-self w.0 in
+    (rw tied refl, found_more w ws ws (each_found ws))
+
+found_among : (order : List RequestId) (ws vs : Waits) → ((id : RequestId) → has_id id order ≡ is_some (find id_cmp id ws)) → Each (λ (v : RequestId × ℕ). is_some (find id_cmp v.0 ws) ≡ true) vs → Each (λ (v : RequestId × ℕ). has_id v.0 order ≡ true) vs
+found_among order ws [] same each = tt
+found_among order ws (v ∷ vs) same each = (same v.0 ∙ each.0, found_among order ws vs same each.1)
+
+-- as many ids as wait, and no more lengths
+pub ids_counted : (order : List RequestId) (ws : Waits) → length (waiting_of order ws) ≡ length order
+ids_counted order ws = length-map order (λ (id : RequestId). record { id = id; length = length_of ws id })
+
+pub waits_counted : (order : List RequestId) (ws : Waits) → IsQueue order ws → length ws ≤ length (waiting_of order ws)
+waits_counted order ws q =
+    let among : filter (λ (w : RequestId × ℕ). has_id w.0 order) ws ≡ ws = all_counted (λ (w : RequestId × ℕ). has_id w.0 order) ws (found_among order ws ws q.same (each_found ws)) in
+    omega (arith, among_counted order ws q.ascend, ap length among, ids_counted order ws)

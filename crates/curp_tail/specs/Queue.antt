@@ -6,10 +6,12 @@ use Rattle.curp_cmd.specs.RequestId.{has_id, id_cmp}
 use Rattle.curp_cmd.specs.declared.command.RequestId.{RequestId}
 use Rattle.curp_model.specs.Master.{Queued}
 
--- the ids that wait, in the order in which they were first added, and for how many more there is room
+-- the ids that wait, in the order in which they were first added, for how many more there is room, and for how many in the
+-- list that has the most of it
 pub record Queueing : Type 0 where
   pub waiting : List Queued
   pub spare : ℕ
+  pub most : ℕ
 
 -- so many entries are synced as the id waits for
 abbrev pub has_come : ℕ → Queued → Bool

@@ -1,4 +1,4 @@
-ghost use Rattle.std.specs.Prelude.{◌≡◌, ◌+◌, ◌≤◌, [], not, map, IfOk, OnOk};
+ghost use Rattle.std.specs.Prelude.{◌≡◌, ◌+◌, ◌≤◌, [], length, max, not, map, IfOk, OnOk};
 ghost use Rattle.std.specs.List.{filter};
 ghost use Rattle.curp_model.specs.Master.{queued};
 ghost use Rattle.curp_tail.specs.Queue.{has_come, is_come_of};
@@ -9,8 +9,8 @@ use std::alloc::Global;
 use std::marker::Model;
 
 /// The ids that wait for collection, each once and at its larger length, in the order in which they were first added.
-/// Contracts see these, and for how many more there is room. That an id keeps its place and its larger length is this
-/// project's own choice.
+/// Contracts see these, for how many more there is room, and for how many in the list that has the most of it. That an id
+/// keeps its place and its larger length is this project's own choice.
 pub struct Queue {
     alloc: Global,
     // In the order in which they were first added.
@@ -30,7 +30,7 @@ impl Drop for Queue {
 }
 
 impl Model for Queue {
-    ghost use Rattle.std.specs.Prelude.{min};
+    ghost use Rattle.std.specs.Prelude.{max, min};
     ghost use Rattle.curp_tail.specs.Queue.{IsQueue, Queueing, waiting_of};
 
     ghost Value = { Queueing };
@@ -38,6 +38,7 @@ impl Model for Queue {
     ghost view = { λ q. record {
       waiting = waiting_of q.order.items q.waits.items;
       spare = min q.order.spare q.waits.spare;
+      most = max q.order.spare q.waits.spare;
     } };
 
     ghost invariant = { λ q. IsQueue q.order.items q.waits.items };
@@ -55,11 +56,12 @@ impl Queue {
         }
     }
 
-    /// Makes room for so many more ids.
+    /// Makes room for so many more ids, or for as many as there are where that is more.
     pub fn reserve(&mut self, spare: u64) -> Result<(), NoMemory>
         ensures waiting { self.new.waiting ≡ self.old.waiting }
         ensures room { OnOk result (spare ≤ self.new.spare) }
         ensures kept { self.old.spare ≤ self.new.spare }
+        ensures no_more { self.new.most ≤ max self.old.most (max spare (length self.old.waiting)) }
     {
         self.order.reserve(spare)?;
         self.waits.reserve(spare)
