@@ -32,6 +32,10 @@ pub length-firsts_from : {A : Type 0} (n : ℕ) (lists : List (List A)) → leng
 length-firsts_from n [] = refl
 length-firsts_from n (xs ∷ rest) = omega (arith, length-firsts_from (n + length xs) rest)
 
+-- as many as lists
+pub firsts_counted : (firsts : List ℕ) (lists : List (List Message)) (next weight : ℕ) → IsIndexOf firsts lists next weight → length firsts ≡ length lists
+firsts_counted firsts lists next weight is = ap length is.firsts_are ∙ length-firsts_from 1 lists
+
 -- no first number is below the one they begin with
 firsts_from_low : {A : Type 0} (n : ℕ) (lists : List (List A)) (i : ℕ) → i < length (firsts_from n lists) → n ≤ get_or (firsts_from n lists) i 0
 firsts_from_low n [] i within = absurd (omega arith)

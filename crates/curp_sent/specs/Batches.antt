@@ -12,10 +12,12 @@ abbrev pub messages_in : Held → List Message
 messages_in (One message) = message ∷ []
 messages_in (Many messages) = messages
 
--- what each step sent, where it sent something, and for how many more steps there is room
+-- what each step sent, where it sent something, for how many more steps there is room, and for how many in the list that has
+-- the most of it
 pub record Batched : Type 0 where
   pub lists : List (List Message)
   pub spare : ℕ
+  pub most : ℕ
 
 -- the numbers of the first message of each list, where messages are numbered from n on
 abbrev pub firsts_from : {A : Type 0} → ℕ → List (List A) → List ℕ

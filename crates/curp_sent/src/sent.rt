@@ -1,4 +1,4 @@
-ghost use Rattle.std.specs.Prelude.{◌≡◌, ◌+◌, ◌≤◌, ◌<◌, ◌^◌, [], length, OnOk, IfOk, IfErr, IfSome, IfNone, IsTrue};
+ghost use Rattle.std.specs.Prelude.{◌≡◌, ◌+◌, ◌≤◌, ◌<◌, ◌^◌, [], length, max, OnOk, IfOk, IfErr, IfSome, IfNone, IsTrue};
 ghost use Rattle.std.specs.Option.{option_copied};
 ghost use Rattle.curp_base.specs.Words.{numbered, all_of};
 ghost use Rattle.curp_model.specs.World.{sent_at, with_batch};
@@ -13,7 +13,8 @@ use std::marker::Model;
 // So many messages fit no memory, and below it no number runs over.
 const MOST: u64 = 1 << 63;
 
-/// Every message that was ever sent, as the steps sent them. Messages are numbered from 1.
+/// Every message that was ever sent, as the steps sent them. Messages are numbered from 1. Contracts see what each step
+/// sent, for how many more steps there is room, and for how many in the list that has the most of it.
 pub struct SentMessages {
     batches: Reserved<Batch>,
     // The number of the first message of each batch.
@@ -35,7 +36,7 @@ impl Drop for SentMessages {
 }
 
 impl Model for SentMessages {
-    ghost use Rattle.std.specs.Prelude.{◌^◌, nat_le, if◌then◌else◌, min};
+    ghost use Rattle.std.specs.Prelude.{◌^◌, nat_le, if◌then◌else◌, max, min};
     ghost use Rattle.curp_sent.specs.Batches.{Batched, IsIndexOf};
 
     ghost Value = { Batched };
@@ -43,6 +44,7 @@ impl Model for SentMessages {
     ghost view = { λ s. record {
       lists = s.batches.items;
       spare = if nat_le s.next (2 ^ 63) then min s.batches.spare s.firsts.spare else 0;
+      most = max s.batches.spare s.firsts.spare;
     } };
 
     ghost invariant = { λ s. IsIndexOf s.firsts.items s.batches.items s.next s.weight };
@@ -61,10 +63,11 @@ impl SentMessages {
         }
     }
 
-    /// Makes room for one more step.
+    /// Makes room for one more step, or for as many as there are where there is none.
     pub fn reserve(&mut self) -> Result<(), NoMemory>
         ensures lists { self.new.lists ≡ self.old.lists }
         ensures room { OnOk result (1 ≤ self.new.spare) }
+        ensures no_more { self.new.most ≤ max self.old.most (max 1 (length self.old.lists)) }
     {
         self.batches.reserve(1)?;
         self.firsts.reserve(1)?;
