@@ -1,6 +1,8 @@
 -- What the calls of a backup answer, by its definition.
 use Rattle.std.specs.Prelude.{◌≡◌, ℕ, ◌==◌, nat_lt, if◌then◌else◌, IsTrue, Bool, true, false, Option, Some, None, Result, Ok, Err, ⊤}
 use Rattle.std.specs.Global.{Vec}
+use Rattle.curp_base.specs.declared.failed.Failed.{Failed}
+use Rattle.curp_base.specs.declared.failed.Failed.TheVariants as failed
 use Rattle.curp_cmd.specs.declared.entry.Entry.{Entry}
 use Rattle.curp_msg.specs.declared.answer.AppendAnswer.{AppendAnswer}
 use Rattle.curp_msg.specs.declared.answer.AppendAnswer.TheVariants as told
@@ -10,8 +12,6 @@ use Rattle.curp_model.specs.Backup.{BackupState}
 use Rattle.curp_backup.specs.declared.error.Fenced.{Fenced}
 use Rattle.curp_backup.specs.declared.error.AppendError.{AppendError}
 use Rattle.curp_backup.specs.declared.error.AppendError.TheVariants as error
-use Rattle.curp_backup.specs.declared.error.FenceError.{FenceError}
-use Rattle.curp_backup.specs.declared.error.FenceError.TheVariants as refusal
 
 -- ---- install
 
@@ -32,12 +32,12 @@ is_stored (told.Stored length) = true
 is_stored _ = false
 
 -- the result says what the answer says. Only where the answer is that entries are stored, memory may be wanting
-abbrev pub AnswersAppend : Result ℕ AppendError → AppendAnswer → Type 0
+abbrev pub AnswersAppend : Result ℕ (Failed AppendError) → AppendAnswer → Type 0
 AnswersAppend (Ok length) answer = answer ≡ told.Stored length
-AnswersAppend (Err (error.Fenced epoch)) answer = answer ≡ told.Fenced epoch
-AnswersAppend (Err (error.Gap length)) answer = answer ≡ told.Gap length
-AnswersAppend (Err error.NotInstalled) answer = answer ≡ told.NotInstalled
-AnswersAppend (Err error.NoMemory) answer = IsTrue (is_stored answer)
+AnswersAppend (Err (failed.Because (error.Fenced epoch))) answer = answer ≡ told.Fenced epoch
+AnswersAppend (Err (failed.Because (error.Gap length))) answer = answer ≡ told.Gap length
+AnswersAppend (Err (failed.Because error.NotInstalled)) answer = answer ≡ told.NotInstalled
+AnswersAppend (Err failed.NoMemory) answer = IsTrue (is_stored answer)
 
 -- ---- fence
 
@@ -47,7 +47,7 @@ gives_log (reply.Log entries) = true
 gives_log (reply.Fenced epoch) = false
 
 -- the result says what the reply says. Only where the reply is the log, memory may be wanting
-abbrev pub AnswersFence : Result (Vec Entry) FenceError → FenceReply → Type 0
+abbrev pub AnswersFence : Result (Vec Entry) (Failed Fenced) → FenceReply → Type 0
 AnswersFence (Ok log) answer = answer ≡ reply.Log log.items
-AnswersFence (Err (refusal.Fenced epoch)) answer = answer ≡ reply.Fenced epoch
-AnswersFence (Err refusal.NoMemory) answer = IsTrue (gives_log answer)
+AnswersFence (Err (failed.Because fenced)) answer = answer ≡ reply.Fenced fenced.epoch
+AnswersFence (Err failed.NoMemory) answer = IsTrue (gives_log answer)

@@ -1,10 +1,11 @@
 ghost use Rattle.std.specs.Prelude.{◌≡◌, ◌≢◌, ◌<◌, ◌≤◌, ◌↔◌, drop, length, IsTrue, OnErr, OnOk, IfOk, Err};
+ghost use Rattle.curp_base.specs.declared.failed.Failed.TheVariants as failed;
 ghost use Rattle.curp_model.specs.Backup.{fresh_backup, install, append, fence};
 ghost use Rattle.curp_entries.specs.Packed.{IsPackedPart, IsShortTail};
 ghost use Rattle.curp_backup.specs.Answers.{AnswersAppend, AnswersFence, install_answer};
 
-use crate::{AppendError, FenceError, Fenced};
-use curp_base::{NoMemory, past};
+use crate::{AppendError, Fenced};
+use curp_base::{Failed, NoMemory, past};
 use curp_cmd::Entry;
 use curp_entries::PackedEntries;
 use std::alloc::Global;
@@ -80,8 +81,8 @@ impl Backup {
         base: u64,
         entries: &[Entry],
         round: u64,
-    ) -> Result<u64, AppendError>
-        ensures state { result ≢ Err AppendError.NoMemory
+    ) -> Result<u64, Failed<AppendError>>
+        ensures state { result ≢ Err failed.NoMemory
             → self.new.state ≡ (append self.old.state epoch base entries.now).state }
         ensures answer { AnswersAppend result (append self.old.state epoch base entries.now).answer }
         ensures err { OnErr result (self.new.state ≡ self.old.state) }
@@ -91,14 +92,14 @@ impl Backup {
         // The list is the same whether it was packed or not.
         let packed = self.log.pack();
         if self.is_fenced(epoch) {
-            return Err(AppendError::Fenced { epoch: self.fence });
+            return Err(Failed::Because(AppendError::Fenced { epoch: self.fence }));
         }
         if self.installed != Some(epoch) {
-            return Err(AppendError::NotInstalled);
+            return Err(Failed::Because(AppendError::NotInstalled));
         }
         let length = self.log.len();
         if base > length {
-            return Err(AppendError::Gap { length });
+            return Err(Failed::Because(AppendError::Gap { length }));
         }
         packed?;
         self.log.extend(past(entries, length - base))?;
@@ -107,14 +108,14 @@ impl Backup {
 
     /// Raises the fence to that epoch, and gives a copy of the whole log.
     #[tactic(auto, unfolding(curp_model::specs::Backup::fence))]
-    pub fn fence(&mut self, epoch: u32) -> Result<Vec<Entry>, FenceError>
-        ensures state { result ≢ Err FenceError.NoMemory → self.new.state ≡ (fence self.old.state epoch).state }
+    pub fn fence(&mut self, epoch: u32) -> Result<Vec<Entry>, Failed<Fenced>>
+        ensures state { result ≢ Err failed.NoMemory → self.new.state ≡ (fence self.old.state epoch).state }
         ensures packed { self.new.packed ≡ self.old.packed }
         ensures answer { AnswersFence result (fence self.old.state epoch).answer }
         ensures err { OnErr result (self.new ≡ self.old) }
     {
         if self.is_fenced(epoch) {
-            return Err(FenceError::Fenced { epoch: self.fence });
+            return Err(Failed::Because(Fenced { epoch: self.fence }));
         }
         let log = self.log.suffix(0)?;
         self.fence = epoch;

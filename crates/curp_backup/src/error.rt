@@ -1,4 +1,3 @@
-use curp_base::NoMemory;
 use thiserror::Error;
 
 /// An epoch is refused: the backup takes only this one, or none below it.
@@ -20,40 +19,4 @@ pub enum AppendError {
     /// It isn't installed at that epoch.
     #[error("the backup isn't installed at that epoch")]
     NotInstalled,
-    /// There was no memory for the new entries.
-    #[error("out of memory")]
-    NoMemory,
-}
-
-/// Why a backup doesn't give its log.
-#[derive(Clone, Copy, Debug, PartialEq, Eq, Error)]
-pub enum FenceError {
-    /// Its fence is above that epoch already, and is this.
-    #[error("fenced at epoch {epoch}")]
-    Fenced { epoch: u32 },
-    /// There was no memory for a copy of the log.
-    #[error("out of memory")]
-    NoMemory,
-}
-
-impl From<NoMemory> for AppendError {
-    ghost use Rattle.std.specs.Prelude.{◌≡◌};
-    ghost use Rattle.curp_backup.specs.declared.error.AppendError.TheVariants.{NoMemory};
-
-    ghost from_gives = { λ _ error. error ≡ NoMemory };
-
-    fn from(_no_memory: NoMemory) -> AppendError {
-        AppendError::NoMemory
-    }
-}
-
-impl From<NoMemory> for FenceError {
-    ghost use Rattle.std.specs.Prelude.{◌≡◌};
-    ghost use Rattle.curp_backup.specs.declared.error.FenceError.TheVariants.{NoMemory};
-
-    ghost from_gives = { λ _ error. error ≡ NoMemory };
-
-    fn from(_no_memory: NoMemory) -> FenceError {
-        FenceError::NoMemory
-    }
 }

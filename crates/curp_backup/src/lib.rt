@@ -10,4 +10,4 @@ mod backup;
 mod error;
 
 pub use backup::Backup;
-pub use error::{AppendError, FenceError, Fenced};
+pub use error::{AppendError, Fenced};

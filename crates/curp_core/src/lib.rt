@@ -94,7 +94,7 @@
 //!   tests of yours that ask what the nodes do with a sequence of messages, losses and stops, as `curp play` does.
 #![tactic(auto)]
 
-pub use curp_base::{Boxed, Items, NoMemory, Shared};
+pub use curp_base::{Boxed, Failed, Items, NoMemory, Shared};
 pub use curp_changes::Shape;
 pub use curp_client::{InvokeError, RetryError};
 pub use curp_cmd::{
@@ -106,7 +106,7 @@ pub use curp_msg::{
     Capture, Completed, Config, Core, Done, Header, Input, Local, Message, PartConfig, Protocol,
 };
 pub use curp_nodes::{BackupNode, ClientNode, ManagerNode, MasterNode, WitnessNode};
-pub use curp_slots::{BadShape, ShapeError};
+pub use curp_slots::BadShape;
 
 /// All nodes of a header, as they are before any step.
 pub mod opening {

@@ -3,8 +3,8 @@ ghost use Rattle.curp_cmd.specs.Node.{backup_node};
 ghost use Rattle.curp_model.specs.Backup.{fresh_backup, installed_backup, on_backup};
 ghost use Rattle.curp_msg.specs.Moved.{Moves, numbered_move, says};
 
-use curp_backup::{AppendError, Backup, FenceError};
-use curp_base::{Items, NoMemory};
+use curp_backup::{AppendError, Backup, Fenced};
+use curp_base::{Failed, Items, NoMemory};
 use curp_cmd::NodeId;
 use curp_msg::{
     Append, AppendAnswer, Appended, Body, Core, Done, FenceAnswer, FenceReply, Local, Message,
@@ -88,10 +88,10 @@ impl BackupNode {
             .append(append.epoch, append.base, entries, append.round)
         {
             Ok(length) => AppendAnswer::Stored { length },
-            Err(AppendError::Fenced { epoch }) => AppendAnswer::Fenced { epoch },
-            Err(AppendError::NotInstalled) => AppendAnswer::NotInstalled,
-            Err(AppendError::Gap { length }) => AppendAnswer::Gap { length },
-            Err(AppendError::NoMemory) => return Err(AllocError),
+            Err(Failed::Because(AppendError::Fenced { epoch })) => AppendAnswer::Fenced { epoch },
+            Err(Failed::Because(AppendError::NotInstalled)) => AppendAnswer::NotInstalled,
+            Err(Failed::Because(AppendError::Gap { length })) => AppendAnswer::Gap { length },
+            Err(Failed::NoMemory) => return Err(AllocError),
         };
         let appended = Appended {
             epoch: append.epoch,
@@ -110,8 +110,8 @@ impl BackupNode {
         let mut messages = Vec::with_capacity(self.alloc, 1)?;
         let answer = match self.backup.fence(epoch) {
             Ok(log) => FenceReply::Log(Items::new(log)),
-            Err(FenceError::Fenced { epoch }) => FenceReply::Fenced { epoch },
-            Err(FenceError::NoMemory) => return Err(AllocError),
+            Err(Failed::Because(Fenced { epoch })) => FenceReply::Fenced { epoch },
+            Err(Failed::NoMemory) => return Err(AllocError),
         };
         let answered = FenceAnswer { epoch, answer };
         messages.push_reserved(self.answer(from, Body::FenceAnswer(answered)));

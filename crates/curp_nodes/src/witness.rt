@@ -1,15 +1,16 @@
 ghost use Rattle.std.specs.Prelude.{◌≡◌, ◌<◌, ◌↔◌, ◌⊎◌, Err, IfOk, IsErr};
+ghost use Rattle.curp_base.specs.declared.failed.Failed.TheVariants as failed;
 ghost use Rattle.curp_cmd.specs.Node.{witness_node};
 ghost use Rattle.curp_model.specs.Witness.{HoldsInOrder, fresh_witness, on_witness, start, started_witness};
 ghost use Rattle.curp_msg.specs.Moved.{Moves, numbered_move, quiet, says};
 
-use curp_base::{Items, NoMemory};
+use curp_base::{Failed, Items, NoMemory};
 use curp_cmd::NodeId;
 use curp_msg::{
     Accepted, Body, Collected, Core, Done, Gc, GcAnswer, Local, Message, Probe, Probed, Record,
     Rejected, Start,
 };
-use curp_slots::{BadShape, GcError, RecordAnswer, ShapeError, StartError, Witness};
+use curp_slots::{BadShape, NotIdle, RecordAnswer, Stranger, Witness};
 use std::alloc::{AllocError, Global};
 use std::marker::Model;
 
@@ -62,10 +63,10 @@ impl WitnessNode {
         sets: u32,
         ways: u32,
         epoch: u32,
-    ) -> Result<WitnessNode, ShapeError>
+    ) -> Result<WitnessNode, Failed<BadShape>>
         ensures number { IfOk result (λ w. w.number ≡ number) }
         ensures state { IfOk result (λ w. w.state ≡ started_witness sets ways epoch) }
-        ensures bad_shape { (result ≡ Err ShapeError.BadShape)
+        ensures bad_shape { (result ≡ Err (failed.Because BadShape))
             ↔ ((sets < 1) ⊎ ((1024 < sets) ⊎ ((ways < 1) ⊎ (16 < ways)))) }
     {
         let witness = Witness::started(alloc, sets, ways, epoch)?;
@@ -120,8 +121,8 @@ impl WitnessNode {
         let mut messages = Vec::with_capacity(self.alloc, 1)?;
         let answer = match self.witness.gc(asked.epoch, asked.ids.as_slice()) {
             Ok(suspects) => GcAnswer::Suspects(Items::new(suspects)),
-            Err(GcError::Stranger { epoch }) => GcAnswer::Stranger { epoch },
-            Err(GcError::NoMemory) => return Err(AllocError),
+            Err(Failed::Because(Stranger { epoch })) => GcAnswer::Stranger { epoch },
+            Err(Failed::NoMemory) => return Err(AllocError),
         };
         let collected = Collected {
             epoch: asked.epoch,
@@ -139,8 +140,8 @@ impl WitnessNode {
         match self.witness.start(asked.part, asked.epoch) {
             Ok(()) => Ok(Done::quiet(self.alloc)),
             // It stays as it was.
-            Err(StartError::NotIdle { .. }) => Ok(Done::quiet(self.alloc)),
-            Err(StartError::NoMemory) => Err(AllocError),
+            Err(Failed::Because(NotIdle { .. })) => Ok(Done::quiet(self.alloc)),
+            Err(Failed::NoMemory) => Err(AllocError),
         }
     }
 

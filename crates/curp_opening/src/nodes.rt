@@ -8,11 +8,11 @@ ghost use Rattle.curp_model.specs.Witness.{started_witness};
 ghost use Rattle.curp_model.specs.World.{opening_master, shape_of};
 ghost use Rattle.curp_opening.specs.Nodes.{HasNumbers, begins, states};
 
-use curp_base::NoMemory;
+use curp_base::{Failed, NoMemory};
 use curp_changes::{Shape, opening_hashes};
 use curp_msg::{Config, Header, PartConfig};
 use curp_nodes::{BackupNode, ClientNode, ManagerNode, MasterNode, WitnessNode};
-use curp_slots::ShapeError;
+use curp_slots::BadShape;
 use std::alloc::{AllocError, Global};
 
 /// The first epoch, version and serial.
@@ -109,6 +109,6 @@ fn witness(alloc: Global, number: u32, sets: u32, ways: u32) -> Result<WitnessNo
     match WitnessNode::new(alloc, number, sets, ways, FIRST) {
         Ok(witness) => Ok(witness),
         // The header's shape is in range, so only memory can be wanting.
-        Err(ShapeError::BadShape | ShapeError::NoMemory) => Err(AllocError),
+        Err(Failed::Because(BadShape) | Failed::NoMemory) => Err(AllocError),
     }
 }

@@ -2,14 +2,15 @@
 use Rattle.std.specs.Prelude.{◌≡◌, ℕ, ◌+◌, if◌then◌else◌, Bool, true, false, not, List, [], Option, Some, None, Result, Ok, Err}
 use Rattle.std.specs.List.{filter}
 use Rattle.curp_base.specs.Words.{rises_past}
+use Rattle.curp_base.specs.declared.failed.Failed.{Failed}
+use Rattle.curp_base.specs.declared.failed.Failed.TheVariants as failed
 use Rattle.curp_cmd.specs.Node.{is_among}
 use Rattle.curp_cmd.specs.declared.entry.Entry.{Entry}
 use Rattle.curp_model.specs.Master.{last_round}
 use Rattle.curp_model.specs.Recovery.{RecoveryPhase, Asking, Storing, Waiting, Replayed, appends_whole, next_storing}
 use Rattle.curp_msg.specs.declared.body.Recover.{Recover}
 use Rattle.curp_msg.specs.declared.message.Message.{Message}
-use Rattle.curp_recover.specs.declared.error.RecoveryError.{RecoveryError}
-use Rattle.curp_recover.specs.declared.error.RecoveryError.TheVariants as error
+use Rattle.curp_recover.specs.declared.error.Ignored.{Ignored}
 use Rattle.curp_recover.specs.declared.phase.Phase.{Phase}
 use Rattle.curp_recover.specs.declared.phase.Phase.TheVariants as phase
 
@@ -52,10 +53,10 @@ finished_log (Waiting r) = Some r.log
 finished_log _ = None
 
 -- an input is ignored exactly where it isn't waited for
-abbrev pub TellsIgnored : {A : Type 0} → Bool → Phase → Result A RecoveryError → Type 0
+abbrev pub TellsIgnored : {A : Type 0} → Bool → Phase → Result A (Failed Ignored) → Type 0
 TellsIgnored waited phase (Ok done) = waited ≡ true
-TellsIgnored waited phase (Err (error.Ignored told)) = (waited ≡ false) × (told ≡ phase)
-TellsIgnored waited phase (Err error.NoMemory) = waited ≡ true
+TellsIgnored waited phase (Err (failed.Because ignored)) = (waited ≡ false) × (ignored.phase ≡ phase)
+TellsIgnored waited phase (Err failed.NoMemory) = waited ≡ true
 
 -- ---- sending again
 

@@ -21,7 +21,7 @@ mod replay;
 mod stage;
 mod turned;
 
-pub use error::RecoveryError;
+pub use error::Ignored;
 pub use phase::Phase;
 pub use recovery::Recovery;
 pub use turned::turned_away;

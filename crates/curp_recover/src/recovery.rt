@@ -1,4 +1,4 @@
-ghost use Rattle.std.specs.Prelude.{◌≡◌, true, IfOk, IfErr};
+ghost use Rattle.std.specs.Prelude.{◌≡◌, IfOk, IfErr};
 ghost use Rattle.std.specs.Option.{option_map};
 ghost use Rattle.std.specs.Result.{result_ok};
 ghost use Rattle.curp_model.specs.Recovery.{Recovering, again_in, append_answered, fence_answered};
@@ -12,8 +12,8 @@ ghost use Rattle.curp_recover.specs.Heard.{heard, is_serving, unadopted};
 use crate::replay::{storing, with_log};
 use crate::stage::{Awaited, RecoveryStage, awaited_after};
 use crate::turned::turned_away;
-use crate::{Phase, RecoveryError, messages};
-use curp_base::{Items, NoMemory, Shared, TryCopy, copies_of};
+use crate::{Ignored, Phase, messages};
+use curp_base::{Failed, Items, NoMemory, Shared, TryCopy, copies_of};
 use curp_cmd::{Entry, NodeId, Request};
 use curp_log::Log;
 use curp_msg::{AppendAnswer, Appended, Body, Done, FenceReply, Local, Message, Recover};
@@ -95,7 +95,7 @@ impl Recovery {
             (recovery_ordered self.old.number self.old.state order.now)) }
     {
         match order {
-            Local::Sync => heard(self.alloc, self.again()),
+            Local::Sync => self.again(),
             _ => Ok(Done::quiet(self.alloc)),
         }
     }
@@ -114,7 +114,7 @@ impl Recovery {
 
     /// The log of the named backup comes. Once the requests are there too, the replayed log goes to each fresh backup. What
     /// is no log counts as not delivered.
-    pub fn on_log(&mut self, entries: &[Entry]) -> Result<Done, RecoveryError>
+    pub fn on_log(&mut self, entries: &[Entry]) -> Result<Done, Failed<Ignored>>
         ensures moves { Moves self.old self.new result (numbered_move self.old.number
             (log_comes self.old.number self.old.state self.old.state.order.backup entries.now self.old.state.phase)) }
         ensures ignored { TellsIgnored (awaits_log self.old.state.phase) (phase_name self.old.state.phase) result }
@@ -124,7 +124,7 @@ impl Recovery {
             requests,
         } = &self.stage
         else {
-            return Err(self.ignored());
+            return Err(Failed::Because(self.ignored()));
         };
         let order = &self.order;
         let Some(log) = Log::from_entries(self.alloc, order.lo, order.hi, entries)? else {
@@ -136,7 +136,7 @@ impl Recovery {
     }
 
     /// The requests of the named witness come. Once the log is there too, the replayed log goes to each fresh backup.
-    pub fn on_frozen(&mut self, requests: Vec<Shared<Request>>) -> Result<Done, RecoveryError>
+    pub fn on_frozen(&mut self, requests: Vec<Shared<Request>>) -> Result<Done, Failed<Ignored>>
         ensures moves { Moves self.old self.new result (numbered_move self.old.number
             (requests_come self.old.number self.old.state self.old.state.order.witness requests.items
             self.old.state.phase)) }
@@ -164,7 +164,7 @@ impl Recovery {
                 self.stage = stage;
                 Ok(done)
             }
-            _ => Err(self.ignored()),
+            _ => Err(Failed::Because(self.ignored())),
         }
     }
 
@@ -175,7 +175,7 @@ impl Recovery {
         backup: &NodeId,
         length: u64,
         round: u64,
-    ) -> Result<Done, RecoveryError>
+    ) -> Result<Done, Failed<Ignored>>
         ensures moves { Moves self.old self.new result (numbered_move self.old.number
             (stored_comes self.old.number self.old.state backup.now length self.old.state.phase)) }
         ensures ignored { TellsIgnored (awaits_backups self.old.state.phase) (phase_name self.old.state.phase) result }
@@ -194,16 +194,15 @@ impl Recovery {
                 *awaited = awaited_after(is_last);
                 Ok(Done::sends(told))
             }
-            _ => Err(self.ignored()),
+            _ => Err(Failed::Because(self.ignored())),
         }
     }
 
     /// What it waits for is asked, sent or told again. Appends go in a new round to the backups that aren't complete, and
-    /// none do where the number of the round would pass 2^64 - 1. It is never ignored.
-    pub fn again(&mut self) -> Result<Done, RecoveryError>
+    /// none do where the number of the round would pass 2^64 - 1. It is never ignored, so it fails for memory alone.
+    pub fn again(&mut self) -> Result<Done, NoMemory>
         ensures moves { Moves self.old self.new result (numbered_move self.old.number
             (again_in self.old.number self.old.state self.old.state.phase)) }
-        ensures ignored { TellsIgnored true (phase_name self.old.state.phase) result }
     {
         let (alloc, number, order) = (self.alloc, self.number, &self.order);
         let sent = match &mut self.stage {
@@ -353,22 +352,22 @@ impl Recovery {
 
     // ----
 
-    fn ignored(&self) -> RecoveryError
-        ensures { result ≡ RecoveryError.Ignored (phase_name self.now.state.phase) }
+    fn ignored(&self) -> Ignored
+        ensures { result.phase ≡ phase_name self.now.state.phase }
     {
-        RecoveryError::Ignored {
+        Ignored {
             phase: self.phase(),
         }
     }
 }
 
 /// What isn't waited for is heard, and does nothing.
-fn heard(alloc: Global, told: Result<Done, RecoveryError>) -> Result<Done, NoMemory>
+fn heard(alloc: Global, told: Result<Done, Failed<Ignored>>) -> Result<Done, NoMemory>
     ensures { result ≡ heard told }
 {
     match told {
         Ok(done) => Ok(done),
-        Err(RecoveryError::Ignored { .. }) => Ok(Done::quiet(alloc)),
-        Err(RecoveryError::NoMemory) => Err(AllocError),
+        Err(Failed::Because(Ignored { .. })) => Ok(Done::quiet(alloc)),
+        Err(Failed::NoMemory) => Err(AllocError),
     }
 }

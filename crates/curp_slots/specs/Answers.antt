@@ -1,16 +1,16 @@
 -- What a witness answers.
 use Rattle.std.specs.Prelude.{◌≡◌, ◌≢◌, Bool, true, false, IsTrue, Option, Some, None, Result, Ok, Err}
 use Rattle.std.specs.Global.{Vec}
+use Rattle.curp_base.specs.declared.failed.Failed.{Failed}
+use Rattle.curp_base.specs.declared.failed.Failed.TheVariants as failed
 use Rattle.curp_cmd.specs.declared.command.Request.{Request}
 use Rattle.curp_model.specs.declared.Mode.{Mode}
 use Rattle.curp_model.specs.declared.Mode.TheVariants.{Idle}
 use Rattle.curp_msg.specs.declared.answer.GcAnswer.{GcAnswer}
 use Rattle.curp_msg.specs.declared.answer.GcAnswer.TheVariants as collected
 use Rattle.curp_msg.specs.declared.answer.Reason.{Reason}
-use Rattle.curp_slots.specs.declared.error.GcError.{GcError}
-use Rattle.curp_slots.specs.declared.error.GcError.TheVariants as error
-use Rattle.curp_slots.specs.declared.error.StartError.{StartError}
-use Rattle.curp_slots.specs.declared.error.StartError.TheVariants as not_started
+use Rattle.curp_slots.specs.declared.error.NotIdle.{NotIdle}
+use Rattle.curp_slots.specs.declared.error.Stranger.{Stranger}
 use Rattle.curp_slots.specs.declared.answer.RecordAnswer.{RecordAnswer}
 use Rattle.curp_slots.specs.declared.answer.RecordAnswer.TheVariants.{Accepted, Rejected}
 
@@ -20,10 +20,10 @@ refusal Accepted = None
 refusal (Rejected why) = Some why
 
 -- only an idle one is started, and only then memory may be wanting
-abbrev pub AnswersStart : Result (Unit {0}) StartError → Mode → Type 0
+abbrev pub AnswersStart : Result (Unit {0}) (Failed NotIdle) → Mode → Type 0
 AnswersStart (Ok _) mode = mode ≡ Idle
-AnswersStart (Err (not_started.NotIdle own)) mode = (own ≡ mode) × (mode ≢ Idle)
-AnswersStart (Err not_started.NoMemory) mode = mode ≡ Idle
+AnswersStart (Err (failed.Because not_idle)) mode = (not_idle.mode ≡ mode) × (mode ≢ Idle)
+AnswersStart (Err failed.NoMemory) mode = mode ≡ Idle
 
 -- suspects are told
 abbrev pub gives_suspects : GcAnswer → Bool
@@ -31,7 +31,7 @@ gives_suspects (collected.Suspects requests) = true
 gives_suspects (collected.Stranger epoch) = false
 
 -- the result says what the answer says. Only where the answer is suspects, memory may be wanting
-abbrev pub AnswersGc : Result (Vec Request) GcError → GcAnswer → Type 0
+abbrev pub AnswersGc : Result (Vec Request) (Failed Stranger) → GcAnswer → Type 0
 AnswersGc (Ok requests) answer = answer ≡ collected.Suspects requests.items
-AnswersGc (Err (error.Stranger epoch)) answer = answer ≡ collected.Stranger epoch
-AnswersGc (Err error.NoMemory) answer = IsTrue (gives_suspects answer)
+AnswersGc (Err (failed.Because stranger)) answer = answer ≡ collected.Stranger stranger.epoch
+AnswersGc (Err failed.NoMemory) answer = IsTrue (gives_suspects answer)

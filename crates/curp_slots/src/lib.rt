@@ -26,5 +26,5 @@ mod started;
 mod witness;
 
 pub use answer::RecordAnswer;
-pub use error::{BadShape, GcError, ShapeError, StartError};
+pub use error::{BadShape, NotIdle, Stranger};
 pub use witness::Witness;

@@ -1,4 +1,5 @@
 ghost use Rattle.std.specs.Prelude.{◌≡◌, ◌<◌, ◌≤◌, ◌≢◌, false, length, IfOk, OnOk, OnErr, Err};
+ghost use Rattle.curp_base.specs.declared.failed.Failed.TheVariants as failed;
 ghost use Rattle.curp_cmd.specs.Hash.{hashes as each_once};
 ghost use Rattle.curp_model.specs.Witness.{HoldsInOrder, by_room, collect, conflict, freeze, frozen_requests, full_set};
 ghost use Rattle.curp_model.specs.Witness.{gc, hold, holds, is_live, started_witness, stranger_to, suspects, turned_away};
@@ -7,12 +8,12 @@ ghost use Rattle.curp_slots.specs.Holding.{with_owner_marked, with_owners_marked
 ghost use Rattle.curp_slots.specs.Slots.{owner};
 
 use crate::answer::RecordAnswer;
-use crate::error::GcError;
+use crate::error::Stranger;
 use crate::hashes::AscendingHashes;
 use crate::listed::Listed;
 use crate::register::Register;
 use crate::slots::Slots;
-use curp_base::{NoMemory, Shared};
+use curp_base::{Failed, NoMemory, Shared};
 use curp_cmd::{Request, RequestId};
 use curp_model::Mode;
 use curp_msg::Reason;
@@ -88,15 +89,15 @@ impl StartedWitness {
         alloc: Global,
         epoch: u32,
         ids: &[RequestId],
-    ) -> Result<Vec<Shared<Request>>, GcError>
-        ensures state { result ≢ Err GcError.NoMemory → self.new ≡ (gc self.old epoch ids.now).state }
+    ) -> Result<Vec<Shared<Request>>, Failed<Stranger>>
+        ensures state { result ≢ Err failed.NoMemory → self.new ≡ (gc self.old epoch ids.now).state }
         ensures answer { AnswersGc result (gc self.old epoch ids.now).answer }
         ensures err { OnErr result (self.new ≡ self.old) }
     {
         if epoch != self.epoch {
-            return Err(GcError::Stranger {
+            return Err(Failed::Because(Stranger {
                 epoch: Some(self.epoch),
-            });
+            }));
         }
         if self.frozen {
             return Ok(Vec::new(alloc));

@@ -1,13 +1,14 @@
 ghost use Rattle.std.specs.Prelude.{◌≡◌, ◌<◌, ◌↔◌, ◌⊎◌, ◌≢◌, IfOk, IsErr, OnOk, OnErr, Err};
+ghost use Rattle.curp_base.specs.declared.failed.Failed.TheVariants as failed;
 ghost use Rattle.curp_model.specs.Witness.{HoldsInOrder, freeze, fresh_witness, frozen_requests};
 ghost use Rattle.curp_model.specs.Witness.{gc, hold, holds, is_live, start, started_witness};
 ghost use Rattle.curp_slots.specs.Answers.{AnswersGc, AnswersStart, refusal};
 ghost use Rattle.curp_slots.specs.Shape.{IsShape};
 
 use crate::answer::RecordAnswer;
-use crate::error::{BadShape, GcError, ShapeError, StartError};
+use crate::error::{BadShape, NotIdle, Stranger};
 use crate::started::StartedWitness;
-use curp_base::{NoMemory, Shared};
+use curp_base::{Failed, NoMemory, Shared};
 use curp_cmd::{Request, RequestId};
 use curp_model::Mode;
 use curp_msg::Reason;
@@ -64,12 +65,17 @@ impl Witness {
     }
 
     /// A witness that was started at that epoch, and holds nothing, with so many sets of so many slots.
-    pub fn started(alloc: Global, sets: u32, ways: u32, epoch: u32) -> Result<Witness, ShapeError>
+    pub fn started(
+        alloc: Global,
+        sets: u32,
+        ways: u32,
+        epoch: u32,
+    ) -> Result<Witness, Failed<BadShape>>
         ensures ok { IfOk result (λ witness. witness ≡ started_witness sets ways epoch) }
-        ensures bad_shape { (result ≡ Err ShapeError.BadShape)
+        ensures bad_shape { (result ≡ Err (failed.Because BadShape))
             ↔ ((sets < 1) ⊎ ((1024 < sets) ⊎ ((ways < 1) ⊎ (16 < ways)))) }
     {
-        check_shape(sets, ways)?;
+        check_shape(sets, ways).map_err(Failed::Because)?;
         let started = StartedWitness::new(alloc, sets, ways, epoch)?;
         Ok(Witness {
             alloc,
@@ -79,8 +85,8 @@ impl Witness {
 
     /// Starts the witness at that epoch, once. All the memory that it needs to hold requests is taken here. Nothing that
     /// it answers depends on the partition, so that takes no part.
-    pub fn start(&mut self, _part: u32, epoch: u32) -> Result<(), StartError>
-        ensures state { result ≢ Err StartError.NoMemory → self.new ≡ start self.old epoch }
+    pub fn start(&mut self, _part: u32, epoch: u32) -> Result<(), Failed<NotIdle>>
+        ensures state { result ≢ Err failed.NoMemory → self.new ≡ start self.old epoch }
         ensures answer { AnswersStart result self.old.mode }
         ensures err { OnErr result (self.new ≡ self.old) }
     {
@@ -94,12 +100,12 @@ impl Witness {
                 self.stage = Stage::Started(started);
                 Ok(())
             }
-            Stage::Unstarted { frozen: true, .. } => Err(StartError::NotIdle {
+            Stage::Unstarted { frozen: true, .. } => Err(Failed::Because(NotIdle {
                 mode: Mode::Frozen,
-            }),
-            Stage::Started(started) => Err(StartError::NotIdle {
+            })),
+            Stage::Started(started) => Err(Failed::Because(NotIdle {
                 mode: started.mode(),
-            }),
+            })),
         }
     }
 
@@ -125,13 +131,17 @@ impl Witness {
     /// are passed over. A frozen witness of that epoch drops nothing and gives none. It costs a search for each listed id and
     /// for what is held. The collections and the suspects are this project's own choice.
     #[tactic(auto, unfolding(curp_model::specs::Witness::gc))]
-    pub fn gc(&mut self, epoch: u32, ids: &[RequestId]) -> Result<Vec<Shared<Request>>, GcError>
-        ensures state { result ≢ Err GcError.NoMemory → self.new ≡ (gc self.old epoch ids.now).state }
+    pub fn gc(
+        &mut self,
+        epoch: u32,
+        ids: &[RequestId],
+    ) -> Result<Vec<Shared<Request>>, Failed<Stranger>>
+        ensures state { result ≢ Err failed.NoMemory → self.new ≡ (gc self.old epoch ids.now).state }
         ensures answer { AnswersGc result (gc self.old epoch ids.now).answer }
         ensures err { OnErr result (self.new ≡ self.old) }
     {
         match &mut self.stage {
-            Stage::Unstarted { .. } => Err(GcError::Stranger { epoch: None }),
+            Stage::Unstarted { .. } => Err(Failed::Because(Stranger { epoch: None })),
             Stage::Started(started) => started.gc(self.alloc, epoch, ids),
         }
     }

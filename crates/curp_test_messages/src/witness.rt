@@ -1,11 +1,11 @@
 //! A witness: which requests it holds, in which order it tells them, and which it suspects.
 
 use crate::build::{key, must, request, right, right_at, shared, value};
-use curp_base::Shared;
+use curp_base::{Failed, Shared};
 use curp_cmd::{Command, Hashes, Request, RequestId};
 use curp_model::Mode;
 use curp_msg::Reason;
-use curp_slots::{BadShape, GcError, RecordAnswer, StartError, Witness};
+use curp_slots::{BadShape, NotIdle, RecordAnswer, Stranger, Witness};
 use std::alloc::Global;
 use std::process::Abort;
 
@@ -25,12 +25,13 @@ fn idle(rt: &impl Abort, alloc: Global, sets: u32, ways: u32) -> Witness {
     must(rt, Witness::new(alloc, sets, ways))
 }
 
-fn try_start(rt: &impl Abort, witness: &mut Witness, epoch: u32, answer: Result<(), StartError>) {
+fn try_start(rt: &impl Abort, witness: &mut Witness, epoch: u32, answer: Result<(), NotIdle>) {
+    let answer = answer.map_err(Failed::Because);
     right(rt, witness.start(1, epoch) == answer, "start");
 }
 
-fn not_idle(mode: Mode) -> StartError {
-    StartError::NotIdle { mode }
+fn not_idle(mode: Mode) -> NotIdle {
+    NotIdle { mode }
 }
 
 fn started(rt: &impl Abort, alloc: Global, sets: u32, ways: u32) -> Witness {
@@ -274,7 +275,7 @@ fn try_stranger(
     let refused = witness.gc(epoch, dropped).err();
     right(
         rt,
-        refused == Some(GcError::Stranger { epoch: own }),
+        refused == Some(Failed::Because(Stranger { epoch: own })),
         "stranger",
     );
 }

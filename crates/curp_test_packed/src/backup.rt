@@ -1,7 +1,8 @@
 //! A backup: what it answers to each call, and which entries it keeps.
 
 use crate::build::{must, right, right_at};
-use curp_backup::{AppendError, Backup, FenceError, Fenced};
+use curp_backup::{AppendError, Backup, Fenced};
+use curp_base::Failed;
 use curp_cmd::Entry;
 use std::alloc::Global;
 use std::process::Abort;
@@ -12,15 +13,15 @@ enum Row {
     Install(u32, Result<(), Fenced>),
     Append(u32, u64, &'static [u32], Result<u64, AppendError>),
     Fence(u32, &'static [u32]),
-    FenceFails(u32, FenceError),
+    FenceFails(u32, Fenced),
 }
 
 fn installs(backup: &mut Backup, epoch: u32, answer: Result<(), Fenced>) -> bool {
     backup.install(epoch) == answer
 }
 
-fn fails(backup: &mut Backup, epoch: u32, error: FenceError) -> bool {
-    backup.fence(epoch).err() == Some(error)
+fn fails(backup: &mut Backup, epoch: u32, fenced: Fenced) -> bool {
+    backup.fence(epoch).err() == Some(Failed::Because(fenced))
 }
 
 fn appends(
@@ -34,7 +35,7 @@ fn appends(
     let entries = entries_of(rt, alloc, clients);
     let found = backup.append(epoch, base, &entries, 1);
     drop(entries);
-    found == answer
+    found == answer.map_err(Failed::Because)
 }
 
 fn entries_of(rt: &impl Abort, alloc: Global, clients: &[u32]) -> Vec<Entry> {
@@ -69,7 +70,7 @@ fn answers(rt: &impl Abort, alloc: Global, backup: &mut Backup, row: Row) -> boo
             appends(rt, alloc, backup, (epoch, base), clients, answer)
         }
         Row::Fence(epoch, clients) => gives(rt, backup, epoch, clients),
-        Row::FenceFails(epoch, error) => fails(backup, epoch, error),
+        Row::FenceFails(epoch, fenced) => fails(backup, epoch, fenced),
     }
 }
 
@@ -94,7 +95,7 @@ const ROWS: [Row; 19] = [
     Row::Append(1, 4, &[11], Ok(5)),
     Row::Fence(3, &[7, 8, 9, 10, 11]),
     Row::Fence(3, &[7, 8, 9, 10, 11]),
-    Row::FenceFails(2, FenceError::Fenced { epoch: 3 }),
+    Row::FenceFails(2, Fenced { epoch: 3 }),
     Row::Append(1, 5, &[12], Err(AppendError::Fenced { epoch: 3 })),
     Row::Append(2, 9, &[12], Err(AppendError::Fenced { epoch: 3 })),
     Row::Install(1, Err(Fenced { epoch: 3 })),
