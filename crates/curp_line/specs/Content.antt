@@ -1,4 +1,5 @@
--- What contracts see of the marks, of the slots, of the adoptions and of their epochs, and for how many more there is room.
+-- What contracts see of the marks, of the slots, of the adoptions and of their epochs, and for how many more there is room: of
+-- slots also for how many in the list or map that has the most of it.
 use Rattle.std.specs.Prelude.{ℕ, List}
 use Rattle.curp_model.specs.Marks.{Mark}
 use Rattle.curp_line.specs.declared.cuts.Cut.{Cut}
@@ -12,6 +13,7 @@ pub record Marking : Type 0 where
 pub record Slotted : Type 0 where
   pub slots : List MarkSlot
   pub spare : ℕ
+  pub most : ℕ
 
 pub record Adoptions : Type 0 where
   pub cuts : List Cut

@@ -13,6 +13,7 @@ mod epochs;
 mod key;
 mod line;
 mod mark;
+mod reserved_map;
 mod slot;
 mod slots;
 mod term;

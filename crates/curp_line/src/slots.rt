@@ -1,19 +1,19 @@
-ghost use Rattle.std.specs.Prelude.{◌≡◌, ◌+◌, ◌≤◌, [], map, IfOk, OnOk};
+ghost use Rattle.std.specs.Prelude.{◌≡◌, ◌+◌, ◌≤◌, [], length, map, max, IfOk, OnOk};
 ghost use Rattle.std.specs.List.{filter, list_any};
 ghost use Rattle.curp_line.specs.Slots.{completes, dropped_slot, flagged_slot, is_shown_slot, shown_of, with_slot};
 
 use crate::key::RequestKey;
 use crate::mark::KeptMark;
+use crate::reserved_map::ReservedMap;
 use crate::slot::{MarkSlot, ShownMark, drop_marks, flag_marks, has_completed, shown};
-use curp_base::NoMemory;
+use curp_base::{NoMemory, make_room};
 use curp_cmd::RequestId;
 use curp_msg::Completed;
 use std::alloc::Global;
-use std::collections::HashMap;
 use std::marker::Model;
 
-/// The slots of the marks of requests, in the order in which these came. Contracts see them, and for how many more there
-/// is room.
+/// The slots of the marks of requests, in the order in which these came. Contracts see them, for how many more there is room,
+/// and for how many in the list or map that has the most of it.
 ///
 /// The slots of one request, and those of one partition, are found from the last one back to the first (this project's
 /// own choice).
@@ -21,13 +21,13 @@ use std::marker::Model;
 pub struct MarkSlots {
     list: Vec<MarkSlot>,
     // The last slot of each request, and of each partition.
-    requests: HashMap<RequestKey, usize>,
-    parts: HashMap<u32, usize>,
+    requests: ReservedMap<RequestKey, usize>,
+    parts: ReservedMap<u32, usize>,
 }
 
 impl Model for MarkSlots {
-    ghost use Rattle.std.specs.Prelude.{◌==◌, ◌-◌, min, vec_len, vec_capacity};
-    ghost use Rattle.std.specs.HashMap.{get, spare};
+    ghost use Rattle.std.specs.Prelude.{◌==◌, ◌-◌, max, min, vec_len, vec_capacity};
+    ghost use Rattle.std.specs.Map.{lookup};
     ghost use Rattle.curp_cmd.specs.RequestId.{same_id};
     ghost use Rattle.curp_line.specs.Content.{Slotted};
     ghost use Rattle.curp_line.specs.Slots.{IsLinked};
@@ -36,12 +36,13 @@ impl Model for MarkSlots {
 
     ghost view = { λ s. record {
       slots = s.list.items;
-      spare = min (vec_capacity s.list - vec_len s.list) (min (spare s.requests) (spare s.parts));
+      spare = min (vec_capacity s.list - vec_len s.list) (min s.requests.spare s.parts.spare);
+      most = max (vec_capacity s.list - vec_len s.list) (max s.requests.spare s.parts.spare);
     } };
 
     ghost invariant = { λ s. IsLinked
-        (λ id. get (λ a b. same_id a.0 b.0) s.requests (record { 0 = id }))
-        (λ part. get (λ a b. a == b) s.parts part)
+        (λ id. lookup (λ key. same_id id key.0) s.requests.items)
+        (λ part. lookup (λ key. part == key) s.parts.items)
         s.list.items };
 }
 
@@ -52,18 +53,19 @@ impl MarkSlots {
     {
         MarkSlots {
             list: Vec::new(alloc),
-            requests: HashMap::new(alloc),
-            parts: HashMap::new(alloc),
+            requests: ReservedMap::new(alloc),
+            parts: ReservedMap::new(alloc),
         }
     }
 
-    /// Makes room for so many more slots.
+    /// Makes room for so many more slots, or for as many as there are where that is more.
     pub fn reserve(&mut self, slots: usize) -> Result<(), NoMemory>
         ensures slots { self.new.slots ≡ self.old.slots }
         ensures room { OnOk result (slots ≤ self.new.spare) }
         ensures kept { self.old.spare ≤ self.new.spare }
+        ensures no_more { self.new.most ≤ max self.old.most (max slots (length self.old.slots)) }
     {
-        self.list.reserve(slots)?;
+        make_room(&mut self.list, slots)?;
         self.requests.reserve(slots)?;
         self.parts.reserve(slots)
     }
@@ -76,14 +78,14 @@ impl MarkSlots {
         ensures spare { self.old.spare ≤ self.new.spare + 1 }
     {
         let at = self.list.len();
-        let of_request: Result<_, _> = self.requests.insert(RequestKey(mark.id()), at);
-        let of_part: Result<_, _> = self.parts.insert(mark.part(), at);
+        let earlier_of_request = self.requests.put(RequestKey(mark.id()), at);
+        let earlier_of_part = self.parts.put(mark.part(), at);
         self.list.push_reserved(MarkSlot {
             mark,
             cuts_before,
             dropped: false,
-            earlier_of_request: of_request.unwrap(),
-            earlier_of_part: of_part.unwrap(),
+            earlier_of_request,
+            earlier_of_part,
         });
     }
 
@@ -92,7 +94,7 @@ impl MarkSlots {
         ensures slots { self.new.slots ≡ map (flagged_slot completed.now) self.old.slots }
         ensures spare { self.new.spare ≡ self.old.spare }
     {
-        let latest = self.requests.get(&RequestKey(completed.id)).copied();
+        let latest = self.requests.value_of(&RequestKey(completed.id));
         flag_marks(&mut self.list, latest, completed);
     }
 
@@ -102,7 +104,7 @@ impl MarkSlots {
         ensures slots { self.new.slots ≡ map (dropped_slot part cut) self.old.slots }
         ensures spare { self.new.spare ≡ self.old.spare }
     {
-        let latest = self.parts.get(&part).copied();
+        let latest = self.parts.value_of(&part);
         drop_marks(&mut self.list, latest, part, cut);
     }
 
@@ -110,7 +112,7 @@ impl MarkSlots {
     pub fn has_completed(&self, id: &RequestId) -> bool
         ensures { result ≡ list_any (completes id.now) self.now.slots }
     {
-        let latest = self.requests.get(&RequestKey(*id)).copied();
+        let latest = self.requests.value_of(&RequestKey(*id));
         has_completed(&self.list, latest, id)
     }
 
