@@ -1,6 +1,7 @@
-ghost use Rattle.std.specs.Prelude.{◌≡◌, ◌+◌, ◌-◌, ◌<◌, ◌≤◌, ◌^◌, true, [], ◌∷◌, ◌++◌, Some, is_some, length, take, drop, slice_get, IfOk, IfSome, OnOk};
+ghost use Rattle.std.specs.Prelude.{◌≡◌, ◌+◌, ◌-◌, ◌<◌, ◌≤◌, ◌^◌, nat_lt, if◌then◌else◌, true, [], ◌∷◌, ◌++◌, None, is_some, length, take, drop, slice_get, IfOk, IfSome, OnOk};
 ghost use Rattle.std.specs.FinMap as map;
 ghost use Rattle.std.specs.List.{filter, list_all};
+ghost use Rattle.std.specs.Option.{option_copied};
 ghost use Rattle.curp_cmd.specs.Entry.{room_of};
 ghost use Rattle.curp_cmd.specs.Hash.{hashes};
 ghost use Rattle.curp_cmd.specs.declared.entry.Entry.TheVariants.{Take};
@@ -178,7 +179,8 @@ impl Log {
 
     /// The entry at that index, if one stands there that isn't packed.
     pub fn newest(&self, index: u64) -> Option<&Entry>
-        ensures { IfSome result (λ entry. slice_get self.now.entries index ≡ Some entry.now) }
+        ensures { option_copied result
+            ≡ (if nat_lt index self.now.packed then None else slice_get self.now.entries index) }
     {
         self.entries.newest(index)
     }
