@@ -3,14 +3,14 @@ use Rattle.std.specs.Prelude.{◌≡◌, ◌≢◌, ℕ, suc, ◌+◌, ◌-◌, 
 use Rattle.std.proofs.Common.{sym, ◌∙◌, ap, subst, arith, append_assoc, length-append, length-drop, take-append-drop}
 use Rattle.std.proofs.lemmas.List.{drop_at, length-take-le, take_all}
 use Rattle.curp_base.specs.Words.{AreBytes}
+use Rattle.curp_base.specs.declared.failed.Failed.{Failed}
+use Rattle.curp_base.specs.declared.failed.Failed.TheVariants as failed
 use Rattle.curp_items.proofs.Combining.{Again, IsFormat, SoundVariants, done, fields_again, input, ok_is, one_of_is, shaped_is, then_is, variant_sound}
 use Rattle.curp_items.proofs.Formats.{node_is, u64_is}
 use Rattle.curp_items.specs.Calls.{ReadsNot}
 use Rattle.curp_items.specs.Format.{Format, Input, ◌▸◌}
 use Rattle.curp_items.specs.Items.{is_node, node, u64}
 use Rattle.curp_items.specs.declared.fault.Fault.{Fault}
-use Rattle.curp_items.specs.declared.fault.ReadError.{ReadError}
-use Rattle.curp_items.specs.declared.fault.ReadError.TheVariants as error
 use Rattle.curp_journal.specs.declared.arrived.Arrived.{Arrived}
 use Rattle.curp_journal.specs.declared.arrived.Arrived.TheVariants as arrived
 use Rattle.curp_journal.specs.declared.arrived.Named.{Named}
@@ -20,7 +20,7 @@ use Rattle.curp_fields.proofs.Having.{node_passes}
 use Rattle.curp_wire.proofs.Frames.{IsFound, frame_again, frame_found, frame_had}
 use Rattle.curp_wire.specs.Frame.{Frame, frame_in, has_frame}
 use Rattle.curp_wire.specs.declared.error.FrameError.{FrameError}
-use Rattle.curp_wire.specs.declared.error.FrameError.TheVariants as wire
+use Rattle.curp_wire.specs.Errors.{GivesIfMemory}
 use Rattle.curp_batches.specs.Arrivals.{Name, arrival, arrival_parts, arrival_variants, frame, frame_of, frame_step, name, named, named_made, named_parts, stamped}
 use Rattle.curp_batches.specs.Prefixes.{Begins, BeginsNot, PrefixFails, IsErrorOf}
 use Rattle.curp_batches.specs.Orders.{orders}
@@ -128,9 +128,9 @@ module _ {A : Type 0} (f : Format A) (is : IsFormat f) where
   fault_not bytes place e x rest fits same =
       not_err (x, input (0 + length (f.of x)) rest) place (sym (is.complete x 0 rest fits) ∙ sym (ap (λ (l : List ℕ). f.read (input 0 l)) same) ∙ e)
 
-  pub read_fails : (bytes : List ℕ) (why : ReadError) → ReadsNot why (f.read (input 0 bytes)) → PrefixFails f bytes why
-  read_fails bytes error.NoMemory e = tt
-  read_fails bytes (error.Fault place) e = fault_not bytes place e
+  pub read_fails : (bytes : List ℕ) (why : Failed Fault) → ReadsNot why (f.read (input 0 bytes)) → PrefixFails f bytes why
+  read_fails bytes failed.NoMemory e = tt
+  read_fails bytes (failed.Because fault) e = fault_not bytes fault.place e
 
 -- one format behind another
 module _ {A B : Type 0} (first : Format A) (second : Format B) (is : IsFormat first) where
@@ -160,12 +160,13 @@ frame_prefix bytes found f within =
     let b = found_begins bytes found (f, within) in
     record { fits = same_frame found.0 (take found.1 bytes) f; is = b.0; size = b.1 }
 
-pub no_frame : (bytes : List ℕ) (r : Result (Message × ℕ) FrameError) (why : FrameError) → r ≡ Err why → why ≢ wire.NoMemory → (r ≢ Err wire.NoMemory → r ≡ frame_in bytes) → BeginsNot frame bytes
+pub no_frame : (bytes : List ℕ) (r : Result (Message × ℕ) (Failed FrameError)) (why : Failed FrameError) → r ≡ Err why → why ≢ failed.NoMemory → GivesIfMemory r (frame_in bytes) → BeginsNot frame bytes
 unfolding frame
-no_frame bytes r why is other exact m rest fits same =
-    let memory : r ≢ Err wire.NoMemory = λ e. other (cc (sym is ∙ e)) in
+no_frame bytes r failed.NoMemory is other exact m rest fits same = absurd (other refl)
+no_frame bytes r (failed.Because why) is other exact m rest fits same =
+    let fails : frame_in bytes ≡ Err why = subst (λ (s : Result (Message × ℕ) (Failed FrameError)). GivesIfMemory s (frame_in bytes)) is exact in
     let found : frame_in bytes ≡ Ok (m, length (frame_of m)) = ap frame_in same ∙ frame_again m (frame_of m) rest fits in
-    absurd (cc (sym is ∙ exact memory ∙ found))
+    absurd (cc (sym fails ∙ found))
 
 -- ---- a message with its name
 
@@ -179,13 +180,13 @@ pub named_not : (bytes : List ℕ) → BeginsNot (name ▸ frame) bytes → Begi
 unfolding named
 named_not bytes none n rest fits same = none (named_parts n) rest fits same
 
-pub nameless : (bytes : List ℕ) (why : ReadError) → PrefixFails name bytes why → PrefixFails named bytes why
-nameless bytes error.NoMemory none = tt
-nameless bytes (error.Fault place) none = named_not bytes (first_fails name frame name_is bytes none)
+pub nameless : (bytes : List ℕ) (why : Failed Fault) → PrefixFails name bytes why → PrefixFails named bytes why
+nameless bytes failed.NoMemory none = tt
+nameless bytes (failed.Because fault) none = named_not bytes (first_fails name frame name_is bytes none)
 
-pub frameless : (bytes : List ℕ) (p : Name) (n : ℕ) (why : ReadError) → Begins name bytes p n → PrefixFails frame (drop n bytes) why → PrefixFails named bytes why
-frameless bytes p n error.NoMemory b none = tt
-frameless bytes p n (error.Fault place) b none = named_not bytes (second_fails name frame name_is bytes p n b none)
+pub frameless : (bytes : List ℕ) (p : Name) (n : ℕ) (why : Failed Fault) → Begins name bytes p n → PrefixFails frame (drop n bytes) why → PrefixFails named bytes why
+frameless bytes p n failed.NoMemory b none = tt
+frameless bytes p n (failed.Because fault) b none = named_not bytes (second_fails name frame name_is bytes p n b none)
 
 -- ---- an arrival
 
@@ -219,19 +220,19 @@ no_arrival bytes no0 no1 x rest fits same = go x fits same
     go (arrived.Message n) f e = no0 (named.of n ++ rest) e
     go (arrived.Local order stamp) f e = no1 (stamped.of (order, stamp) ++ rest) e
 
-pub message_fails : (rest : List ℕ) (why : ReadError) → PrefixFails named rest why → PrefixFails arrival (0 ∷ rest) why
+pub message_fails : (rest : List ℕ) (why : Failed Fault) → PrefixFails named rest why → PrefixFails arrival (0 ∷ rest) why
 unfolding arrival
-message_fails rest error.NoMemory none = tt
-message_fails rest (error.Fault place) none = λ x more fits same. go x more fits same
+message_fails rest failed.NoMemory none = tt
+message_fails rest (failed.Because fault) none = λ x more fits same. go x more fits same
   where
     go : (x : Arrived) (more : List ℕ) → arrival.Fits x → 0 ∷ rest ≡ arrival.of x ++ more → ⊥
     go (arrived.Message n) more f e = none n more f (ap (λ (l : List ℕ). drop 1 l) e)
     go (arrived.Local order stamp) more f e = absurd cc
 
-pub order_fails : (rest : List ℕ) (why : ReadError) → PrefixFails stamped rest why → PrefixFails arrival (1 ∷ rest) why
+pub order_fails : (rest : List ℕ) (why : Failed Fault) → PrefixFails stamped rest why → PrefixFails arrival (1 ∷ rest) why
 unfolding arrival
-order_fails rest error.NoMemory none = tt
-order_fails rest (error.Fault place) none = λ x more fits same. go x more fits same
+order_fails rest failed.NoMemory none = tt
+order_fails rest (failed.Because fault) none = λ x more fits same. go x more fits same
   where
     go : (x : Arrived) (more : List ℕ) → arrival.Fits x → 1 ∷ rest ≡ arrival.of x ++ more → ⊥
     go (arrived.Message n) more f e = absurd cc
@@ -252,7 +253,7 @@ pub stamped_found : (bytes : List ℕ) (start after : Input) (p : Local × ℕ) 
 stamped_found bytes start after p n h from e is =
     subst (Begins stamped bytes p) (sym is) (taken_begins stamped stamped_is bytes p after h (ap stamped.read (sym from) ∙ e))
 
-pub stamped_not : (bytes : List ℕ) (start : Input) (why : ReadError) → start ≡ input 0 bytes → ReadsNot why (stamped.read start) → PrefixFails stamped bytes why
+pub stamped_not : (bytes : List ℕ) (start : Input) (why : Failed Fault) → start ≡ input 0 bytes → ReadsNot why (stamped.read start) → PrefixFails stamped bytes why
 stamped_not bytes start why from e = read_fails stamped stamped_is bytes why (subst (λ (i : Input). ReadsNot why (stamped.read i)) from e)
 
 -- an encoding that stands at the start of bytes is no longer than they
@@ -266,9 +267,9 @@ pub no_tag : (tag : ℕ) (rest : List ℕ) → tag ≢ 0 → tag ≢ 1 → Begin
 no_tag tag rest other another =
     no_arrival (tag ∷ rest) (λ more e. other (ap (λ (l : List ℕ). get_or l 0 0) e)) (λ more e. another (ap (λ (l : List ℕ). get_or l 0 0) e))
 
-pub frame_fails : (bytes : List ℕ) (r : Result (Message × ℕ) FrameError) (why : FrameError) (e : ReadError) → r ≡ Err why → IsErrorOf why e → (r ≢ Err wire.NoMemory → r ≡ frame_in bytes) → PrefixFails frame bytes e
-frame_fails bytes r why error.NoMemory is of exact = tt
-frame_fails bytes r why (error.Fault place) is of exact = no_frame bytes r why is of exact
+pub frame_fails : (bytes : List ℕ) (r : Result (Message × ℕ) (Failed FrameError)) (why : Failed FrameError) (e : Failed Fault) → r ≡ Err why → IsErrorOf why e → GivesIfMemory r (frame_in bytes) → PrefixFails frame bytes e
+frame_fails bytes r why failed.NoMemory is of exact = tt
+frame_fails bytes r why (failed.Because fault) is of exact = no_frame bytes r why is of exact
 
 pub rest_is : (n : ℕ) (bytes : List ℕ) → take (length bytes - n) (drop n bytes) ≡ drop n bytes
 rest_is n bytes = take_all (length bytes - n) (drop n bytes) (omega (arith, length-drop n bytes))

@@ -4,8 +4,9 @@ use Rattle.std.specs.declared.alloc.AllocError.{AllocError}
 use Rattle.std.proofs.Common.{sym, ◌∙◌, ap, subst, arith, append_assoc, length-append, length-drop}
 use Rattle.std.proofs.lemmas.List.{append-nil, drop_at}
 use Rattle.curp_base.specs.Words.{Each}
-use Rattle.curp_items.specs.declared.fault.ReadError.{ReadError}
-use Rattle.curp_items.specs.declared.fault.ReadError.TheVariants as error
+use Rattle.curp_base.specs.declared.failed.Failed.{Failed}
+use Rattle.curp_base.specs.declared.failed.Failed.TheVariants as failed
+use Rattle.curp_items.specs.declared.fault.Fault.{Fault}
 use Rattle.curp_journal.specs.declared.arrived.Arrived.{Arrived}
 use Rattle.curp_batches.specs.Arrivals.{arrival}
 use Rattle.curp_batches.specs.Batches.{AreArrivals, AreArrivalsIn, arrivals_of}
@@ -72,15 +73,15 @@ same_arrivals (x ∷ one) (y ∷ other) f g e =
     let p = one_prefix arrival arrival_is x y (arrivals_of one) (arrivals_of other) f.0 g.0 e in
     ap (λ (z : Arrived). z ∷ one) p.0 ∙ ap (λ (l : List Arrived). y ∷ l) (same_arrivals one other f.1 g.1 p.1)
 
-not_there : (rest : List ℕ) (why : ReadError) → PrefixFails arrival rest why → why ≢ error.NoMemory → BeginsNot arrival rest
-not_there rest error.NoMemory fails other = absurd (other refl)
-not_there rest (error.Fault place) fails other = fails
+not_there : (rest : List ℕ) (why : Failed Fault) → PrefixFails arrival rest why → why ≢ failed.NoMemory → BeginsNot arrival rest
+not_there rest failed.NoMemory fails other = absurd (other refl)
+not_there rest (failed.Because fault) fails other = fails
 
-pub refused : (bytes : List ℕ) (done : List Arrived) (at : ℕ) (why : ReadError) → ReadSo bytes done at → at < length bytes → PrefixFails arrival (drop at bytes) why → why ≢ error.NoMemory → AreArrivalsIn bytes None
+pub refused : (bytes : List ℕ) (done : List Arrived) (at : ℕ) (why : Failed Fault) → ReadSo bytes done at → at < length bytes → PrefixFails arrival (drop at bytes) why → why ≢ failed.NoMemory → AreArrivalsIn bytes None
 refused bytes done at why r within fails other = no_arrivals bytes done at r within (not_there (drop at bytes) why fails other)
 
-pub refused_so : {V : Type 0} (items : V → List Arrived) (bytes : List ℕ) (done : List Arrived) (at : ℕ) (why : ReadError) (r : Result (Option V) AllocError) → ReadSo bytes done at → at < length bytes → PrefixFails arrival (drop at bytes) why
-    → IfOk r (λ read. (read ≡ None) × (why ≢ error.NoMemory)) → IfOk r (λ read. AreArrivalsIn bytes (option_map items read))
+pub refused_so : {V : Type 0} (items : V → List Arrived) (bytes : List ℕ) (done : List Arrived) (at : ℕ) (why : Failed Fault) (r : Result (Option V) AllocError) → ReadSo bytes done at → at < length bytes → PrefixFails arrival (drop at bytes) why
+    → IfOk r (λ read. (read ≡ None) × (why ≢ failed.NoMemory)) → IfOk r (λ read. AreArrivalsIn bytes (option_map items read))
 refused_so items bytes done at why (Err e) r within fails none = tt
 refused_so {V} items bytes done at why (Ok read) r within fails none =
     subst (λ (o : Option V). AreArrivalsIn bytes (option_map items o)) (sym none.0) (refused bytes done at why r within fails none.1)

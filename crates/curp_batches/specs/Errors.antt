@@ -1,9 +1,10 @@
--- Why an arrival isn't written, by why its message has no frame.
-use Rattle.curp_wire.specs.declared.error.EncodeError.{EncodeError}
-use Rattle.curp_wire.specs.declared.error.EncodeError.TheVariants as encoding
-use Rattle.curp_batches.specs.declared.error.WriteError.{WriteError}
-use Rattle.curp_batches.specs.declared.error.WriteError.TheVariants as writing
+-- Why what holds a message isn't written.
+use Rattle.curp_base.specs.declared.failed.Failed.{Failed}
+use Rattle.curp_base.specs.declared.failed.Failed.TheVariants as failed
+use Rattle.curp_wire.specs.declared.error.NoFrame.{NoFrame}
+use Rattle.curp_batches.specs.declared.error.NoEncoding.{NoEncoding}
 
-abbrev pub write_error : EncodeError → WriteError
-write_error encoding.NoFrame = writing.NoEncoding
-write_error encoding.NoMemory = writing.NoMemory
+-- by why that message isn't
+abbrev pub encoding_error : Failed NoFrame → Failed NoEncoding
+encoding_error failed.NoMemory = failed.NoMemory
+encoding_error (failed.Because no_frame) = failed.Because (record {})

@@ -5,11 +5,11 @@ ghost use Rattle.curp_batches.specs.Arrivals as format;
 ghost use Rattle.curp_batches.specs.Arrivals.{arrival, frame, named, stamped};
 ghost use Rattle.curp_batches.specs.Prefixes.{Begins, IsErrorOf, ReadsPrefix};
 
-use crate::error::WriteError;
+use crate::error::{NoEncoding, encoding_error};
 use crate::order::{read_order, write_order};
-use curp_base::NoMemory;
+use curp_base::{Failed, NoMemory};
 use curp_cmd::NodeId;
-use curp_items::{Fault, Item, ReadError, Reader, Writer, is_node};
+use curp_items::{Fault, Item, Reader, Writer, is_node};
 use curp_journal::{Arrived, Named};
 use curp_msg::{Local, Message};
 use curp_wire::{FrameError, decode, encode};
@@ -17,14 +17,18 @@ use std::alloc::Global;
 
 /// Writes its encoding. After an error, what was written is not to be used.
 #[tactic(auto, unfolding(crate::specs::Arrivals::arrival))]
-pub fn write_arrival(alloc: Global, arrived: &Arrived, out: &mut Writer) -> Result<(), WriteError>
+pub fn write_arrival(
+    alloc: Global,
+    arrived: &Arrived,
+    out: &mut Writer,
+) -> Result<(), Failed<NoEncoding>>
     ensures writes { OnOk result (out.new ≡ record {
       prefix = out.old.prefix;
       text = out.old.text
           ++ arrival.of arrived.now;
     }) }
     ensures fits { OnOk result (arrival.Fits arrived.now) }
-    ensures none { result ≡ Err WriteError.NoEncoding → arrival.Fits arrived.now → ⊥ }
+    ensures none { result ≡ Err (Failed.Because (record {})) → arrival.Fits arrived.now → ⊥ }
 {
     match arrived {
         Arrived::Message(named) => {
@@ -40,19 +44,19 @@ pub fn write_arrival(alloc: Global, arrived: &Arrived, out: &mut Writer) -> Resu
 }
 
 #[tactic(auto, unfolding(crate::specs::Arrivals::named, crate::specs::Arrivals::name, crate::specs::Arrivals::frame), using(crate::proofs::Encodings::frame_fits, crate::proofs::Encodings::frame_text, crate::proofs::Encodings::no_sender, crate::proofs::Encodings::unframed))]
-fn write_named(alloc: Global, sent: &Named, out: &mut Writer) -> Result<(), WriteError>
+fn write_named(alloc: Global, sent: &Named, out: &mut Writer) -> Result<(), Failed<NoEncoding>>
     ensures writes { OnOk result (out.new ≡ record {
       prefix = out.old.prefix;
       text = out.old.text
           ++ named.of sent.now;
     }) }
     ensures fits { OnOk result (named.Fits sent.now) }
-    ensures none { result ≡ Err WriteError.NoEncoding → named.Fits sent.now → ⊥ }
+    ensures none { result ≡ Err (Failed.Because (record {})) → named.Fits sent.now → ⊥ }
 {
     if !is_node(&sent.from) {
-        return Err(WriteError::NoEncoding);
+        return Err(Failed::Because(NoEncoding));
     }
-    let frame = encode(alloc, &sent.message)?;
+    let frame = encode(alloc, &sent.message).map_err(encoding_error)?;
     (sent.from, (sent.step, (sent.place, sent.stamp))).write(out)?;
     out.bytes(&frame)?;
     Ok(())
@@ -72,7 +76,7 @@ fn write_stamped(order: &Local, stamp: u64, out: &mut Writer) -> Result<(), NoMe
 }
 
 #[tactic(auto, unfolding(crate::specs::Arrivals::stamped))]
-fn read_stamped(alloc: Global, reader: &mut Reader) -> Result<(Local, u64), ReadError>
+fn read_stamped(alloc: Global, reader: &mut Reader) -> Result<(Local, u64), Failed<Fault>>
     ensures { ReadsIfMemory result reader.new (stamped.read reader.old) }
 {
     let order = read_order(alloc, reader)?;
@@ -81,7 +85,7 @@ fn read_stamped(alloc: Global, reader: &mut Reader) -> Result<(Local, u64), Read
 }
 
 /// The order and its stamp at the start of bytes.
-fn stamped_at(alloc: Global, bytes: &[u8]) -> Result<((Local, u64), usize), ReadError>
+fn stamped_at(alloc: Global, bytes: &[u8]) -> Result<((Local, u64), usize), Failed<Fault>>
     ensures { ReadsPrefix stamped bytes.now result }
 {
     let mut reader = Reader::new(bytes);
@@ -94,7 +98,7 @@ fn stamped_at(alloc: Global, bytes: &[u8]) -> Result<((Local, u64), usize), Read
 }
 
 /// The name at the start of bytes.
-fn name_at(bytes: &[u8]) -> Result<((NodeId, (u64, (u64, u64))), usize), ReadError>
+fn name_at(bytes: &[u8]) -> Result<((NodeId, (u64, (u64, u64))), usize), Failed<Fault>>
     ensures { ReadsPrefix format.name bytes.now result }
 {
     let mut reader = Reader::new(bytes);
@@ -102,23 +106,21 @@ fn name_at(bytes: &[u8]) -> Result<((NodeId, (u64, (u64, u64))), usize), ReadErr
     let length = reader.place() as usize;
     match found {
         Ok(found) => Ok((found, length)),
-        Err(fault) => Err(ReadError::Fault { place: fault.place }),
+        Err(fault) => Err(Failed::Because(fault)),
     }
 }
 
-fn error_of(why: FrameError) -> ReadError
+fn error_of(why: Failed<FrameError>) -> Failed<Fault>
     ensures { IsErrorOf why result }
 {
     match why {
-        FrameError::NoMemory => ReadError::NoMemory,
-        FrameError::Short { .. } | FrameError::BadTag | FrameError::BadField { .. } => {
-            ReadError::Fault { place: 0 }
-        }
+        Failed::NoMemory => Failed::NoMemory,
+        Failed::Because(_) => Failed::Because(Fault { place: 0 }),
     }
 }
 
 /// The message whose frame stands at the start of bytes, and how many bytes that has.
-pub fn frame_at(alloc: Global, bytes: &[u8]) -> Result<(Message, usize), ReadError>
+pub fn frame_at(alloc: Global, bytes: &[u8]) -> Result<(Message, usize), Failed<Fault>>
     ensures { ReadsPrefix frame bytes.now result }
 {
     match decode(alloc, bytes) {
@@ -128,7 +130,7 @@ pub fn frame_at(alloc: Global, bytes: &[u8]) -> Result<(Message, usize), ReadErr
 }
 
 /// The message with its name at the start of bytes.
-fn named_at(alloc: Global, bytes: &[u8]) -> Result<(Named, usize), ReadError>
+fn named_at(alloc: Global, bytes: &[u8]) -> Result<(Named, usize), Failed<Fault>>
     ensures { ReadsPrefix named bytes.now result }
 {
     match name_at(bytes) {
@@ -143,7 +145,7 @@ fn named_behind(
     bytes: &[u8],
     name: (NodeId, (u64, (u64, u64))),
     at: usize,
-) -> Result<(Named, usize), ReadError>
+) -> Result<(Named, usize), Failed<Fault>>
     requires begins { Begins format.name bytes.now name at }
     requires within { at ≤ length bytes.now }
     ensures { ReadsPrefix named bytes.now result }
@@ -166,18 +168,18 @@ fn named_behind(
 
 /// What stands at the start of bytes, and how many bytes it has.
 #[tactic(auto, using(crate::proofs::Encodings::empty_not))]
-pub fn arrival_at(alloc: Global, bytes: &[u8]) -> Result<(Arrived, usize), ReadError>
+pub fn arrival_at(alloc: Global, bytes: &[u8]) -> Result<(Arrived, usize), Failed<Fault>>
     ensures { ReadsPrefix arrival bytes.now result }
 {
     match bytes {
-        [] => Err(ReadError::Fault { place: 0 }),
+        [] => Err(Failed::Because(Fault { place: 0 })),
         [tag, rest @ ..] => tagged_at(alloc, *tag, rest),
     }
 }
 
 /// What stands behind a tag.
 #[tactic(auto, using(crate::proofs::Encodings::no_tag, crate::proofs::Encodings::message_begins, crate::proofs::Encodings::message_fails, crate::proofs::Encodings::order_begins, crate::proofs::Encodings::order_fails))]
-fn tagged_at(alloc: Global, tag: u8, rest: &[u8]) -> Result<(Arrived, usize), ReadError>
+fn tagged_at(alloc: Global, tag: u8, rest: &[u8]) -> Result<(Arrived, usize), Failed<Fault>>
     requires { length rest.now < 2 ^ 63 }
     ensures { ReadsPrefix arrival (tag ∷ rest.now) result }
 {
@@ -190,6 +192,6 @@ fn tagged_at(alloc: Global, tag: u8, rest: &[u8]) -> Result<(Arrived, usize), Re
             Ok((stamped, length)) => Ok((Arrived::Local(stamped.0, stamped.1), length + 1)),
             Err(why) => Err(why),
         },
-        _ => Err(ReadError::Fault { place: 0 }),
+        _ => Err(Failed::Because(Fault { place: 0 })),
     }
 }

@@ -5,10 +5,10 @@ ghost use Rattle.curp_batches.specs.Arrivals.{arrival};
 ghost use Rattle.curp_batches.specs.Batches.{AreArrivals, AreArrivalsIn, IsBatchIn, IsEncoding, checksum_of};
 
 use crate::arrivals::{arrival_at, write_arrival};
-use crate::error::WriteError;
-use curp_base::NoMemory;
+use crate::error::NoEncoding;
+use curp_base::{Failed, NoMemory};
 use curp_cmd::bytes_hash;
-use curp_items::{ReadError, Writer};
+use curp_items::{Fault, Writer};
 use curp_journal::Arrived;
 use std::alloc::{AllocError, Global};
 
@@ -16,9 +16,9 @@ use std::alloc::{AllocError, Global};
 const CHECKSUM_LENGTH: usize = 8;
 
 /// Encodes a batch: its arrivals one behind the other, and the checksum of these bytes.
-pub fn encode(alloc: Global, batch: &[Arrived]) -> Result<Vec<u8>, WriteError>
+pub fn encode(alloc: Global, batch: &[Arrived]) -> Result<Vec<u8>, Failed<NoEncoding>>
     ensures encoding { IfOk result (λ bytes. IsEncoding batch.now bytes.items) }
-    ensures none { result ≡ Err WriteError.NoEncoding → Each arrival.Fits batch.now → ⊥ }
+    ensures none { result ≡ Err (Failed.Because (record {})) → Each arrival.Fits batch.now → ⊥ }
 {
     let mut bytes = encode_arrivals(alloc, batch)?;
     let checksum = checksum_of(&bytes);
@@ -26,9 +26,9 @@ pub fn encode(alloc: Global, batch: &[Arrived]) -> Result<Vec<u8>, WriteError>
     Ok(bytes)
 }
 
-fn encode_arrivals(alloc: Global, batch: &[Arrived]) -> Result<Vec<u8>, WriteError>
+fn encode_arrivals(alloc: Global, batch: &[Arrived]) -> Result<Vec<u8>, Failed<NoEncoding>>
     ensures encoding { IfOk result (λ bytes. AreArrivals batch.now bytes.items) }
-    ensures none { result ≡ Err WriteError.NoEncoding → Each arrival.Fits batch.now → ⊥ }
+    ensures none { result ≡ Err (Failed.Because (record {})) → Each arrival.Fits batch.now → ⊥ }
 {
     let mut out = Writer::new(Vec::new(alloc));
     for arrived in batch {
@@ -86,11 +86,11 @@ fn arrivals_in(alloc: Global, bytes: &[u8]) -> Result<Option<Vec<Arrived>>, NoMe
 }
 
 /// The bytes are no arrivals, or there is no memory for them.
-fn no_arrivals(why: ReadError) -> Result<Option<Vec<Arrived>>, NoMemory>
-    ensures { IfOk result (λ read. (read ≡ None) × (why ≢ ReadError.NoMemory)) }
+fn no_arrivals(why: Failed<Fault>) -> Result<Option<Vec<Arrived>>, NoMemory>
+    ensures { IfOk result (λ read. (read ≡ None) × (why ≢ Failed.NoMemory)) }
 {
     match why {
-        ReadError::NoMemory => Err(AllocError),
-        ReadError::Fault { .. } => Ok(None),
+        Failed::NoMemory => Err(AllocError),
+        Failed::Because(_) => Ok(None),
     }
 }

@@ -1,38 +1,22 @@
 ghost use Rattle.std.specs.Prelude.{◌≡◌};
-ghost use Rattle.curp_batches.specs.declared.error.WriteError.TheVariants as writing;
+ghost use Rattle.curp_batches.specs.Errors.{encoding_error};
 
-use curp_base::NoMemory;
-use curp_wire::EncodeError;
+use curp_base::Failed;
+use curp_wire::NoFrame;
 use thiserror::Error;
 
-/// Why what comes to a node, or goes out from it, wasn't written.
+/// What comes to a node, or goes out from it, has no encoding: a message has no frame (`curp_wire::NoFrame`), its sender is a
+/// node that there can't be, or there is no length for so many bytes.
 #[derive(Clone, Copy, Debug, PartialEq, Eq, Error)]
-pub enum WriteError {
-    /// It has no encoding: a message has no frame (`curp_wire::EncodeError::NoFrame`), its sender is a node that there can't
-    /// be, or there is no length for so many bytes.
-    #[error("it has no encoding")]
-    NoEncoding,
-    #[error("out of memory")]
-    NoMemory,
-}
+#[error("it has no encoding")]
+pub struct NoEncoding;
 
-impl From<NoMemory> for WriteError {
-    ghost from_gives = { λ _ e. e ≡ writing.NoMemory };
-
-    fn from(_: NoMemory) -> WriteError {
-        WriteError::NoMemory
-    }
-}
-
-impl From<EncodeError> for WriteError {
-    ghost use Rattle.curp_batches.specs.Errors.{write_error};
-
-    ghost from_gives = { λ why e. e ≡ write_error why };
-
-    fn from(why: EncodeError) -> WriteError {
-        match why {
-            EncodeError::NoFrame => WriteError::NoEncoding,
-            EncodeError::NoMemory => WriteError::NoMemory,
-        }
+/// Why what holds a message isn't written, by why that message isn't.
+pub fn encoding_error(why: Failed<NoFrame>) -> Failed<NoEncoding>
+    ensures { result ≡ encoding_error why }
+{
+    match why {
+        Failed::NoMemory => Failed::NoMemory,
+        Failed::Because(NoFrame) => Failed::Because(NoEncoding),
     }
 }

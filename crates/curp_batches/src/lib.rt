@@ -18,4 +18,4 @@ mod order;
 
 pub use arrivals::{arrival_at, frame_at, write_arrival};
 pub use batch::{batch_in, encode};
-pub use error::WriteError;
+pub use error::{NoEncoding, encoding_error};

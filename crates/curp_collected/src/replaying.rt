@@ -12,6 +12,7 @@ use crate::CollectError;
 use crate::beginning::Beginning;
 use crate::files::Files;
 use curp_anew::takes_first;
+use curp_base::Failed;
 use curp_cmd::NodeId;
 use curp_durable::{OpenError, inputs_in};
 use curp_journal::{Arrived, Origin, is_own};
@@ -98,12 +99,14 @@ fn inputs_of(files: &Files<'_>, file: usize, id: NodeId) -> Result<Vec<Arrived>,
     let title = title_of(id, &files.header);
     match inputs_in(files.alloc, files.each[file].content, &title) {
         Ok(inputs) => Ok(inputs),
-        Err(OpenError::Damaged { place }) => Err(CollectError::Damaged { file, place }),
-        Err(OpenError::NoMemory) => Err(CollectError::NoMemory),
+        Err(Failed::Because(OpenError::Damaged { place })) => {
+            Err(CollectError::Damaged { file, place })
+        }
+        Err(Failed::NoMemory) => Err(CollectError::NoMemory),
         // The title was read before, and there is no disk.
-        Err(OpenError::NotFormatted | OpenError::DiskFault) => Err(CollectError::NotAJournal {
-            file,
-        }),
+        Err(Failed::Because(OpenError::NotFormatted | OpenError::DiskFault)) => {
+            Err(CollectError::NotAJournal { file })
+        }
     }
 }
 

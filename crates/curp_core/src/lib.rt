@@ -77,7 +77,7 @@
 //!
 //! # Bytes, journals, tests
 //!
-//! - `frames`: `encode` writes a message as a frame, or says that it has none (`EncodeError::NoFrame`); `encode_light` does
+//! - `frames`: `encode` writes a message as a frame, or says that it has none (`NoFrame`); `encode_light` does
 //!   so of a message that is light, which always has one. `decode` finds the message that bytes begin with and its length,
 //!   or says how many bytes are needed (`FrameError::Short`). No frame has a checksum.
 //! - `journal`: an `Item` is what came to a node, and what it did then; a message comes with its sender's name for it, and
@@ -124,7 +124,7 @@ pub mod bodies {
 
 /// Messages as bytes.
 pub mod frames {
-    pub use curp_wire::{EncodeError, FrameError, decode, encode, encode_light, is_light};
+    pub use curp_wire::{FrameError, NoFrame, decode, encode, encode_light, is_light};
 }
 
 /// What came to a node, and what it did.

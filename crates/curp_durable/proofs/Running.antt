@@ -1,6 +1,8 @@
 -- Calls of a disk, one run after another.
 use Rattle.std.specs.Prelude.{◌≡◌, ℕ, ◌+◌, List, [], ◌∷◌, ◌++◌, length, refl}
 use Rattle.std.proofs.Common.{inl, inr, sym, ap, subst, arith}
+use Rattle.curp_base.specs.declared.failed.Failed.{Failed}
+use Rattle.curp_base.specs.declared.failed.Failed.TheVariants as failed
 use Rattle.curp_disk.specs.declared.disk.Did.{Did}
 use Rattle.curp_disk.specs.declared.disk.Did.TheVariants as did
 use Rattle.curp_disk.specs.declared.medium.Call.{Call}
@@ -47,9 +49,9 @@ pub same_commit : (commit : ℕ) (b : List Arrived) → b ≡ [] → commit ≡ 
 same_commit commit b none = ap (commit_behind commit) (sym none)
 
 -- what is refused before anything is done
-pub none_ran : {D : Type 0} (wrote : D → ℕ → List ℕ → Did → D → Type 0) (synced : D → Did → D → Type 0) (commit size_limit : ℕ) (b inputs : List Arrived) (old : D) (why : DurableError) → Declines commit size_limit inputs why → RanUntil wrote synced commit b old old why
-none_ran wrote synced commit size_limit b inputs old durable.DiskFault declined = absurd declined
-none_ran wrote synced commit size_limit b inputs old durable.NoMemory declined = inl refl
-none_ran wrote synced commit size_limit b inputs old durable.NoEncoding declined = refl
-none_ran wrote synced commit size_limit b inputs old durable.Full declined = refl
-none_ran wrote synced commit size_limit b inputs old durable.Spent declined = refl
+pub none_ran : {D : Type 0} (wrote : D → ℕ → List ℕ → Did → D → Type 0) (synced : D → Did → D → Type 0) (commit size_limit : ℕ) (b inputs : List Arrived) (old : D) (why : Failed DurableError) → Declines commit size_limit inputs why → RanUntil wrote synced commit b old old why
+none_ran wrote synced commit size_limit b inputs old (failed.Because durable.DiskFault) declined = absurd declined
+none_ran wrote synced commit size_limit b inputs old failed.NoMemory declined = inl refl
+none_ran wrote synced commit size_limit b inputs old (failed.Because durable.NoEncoding) declined = refl
+none_ran wrote synced commit size_limit b inputs old (failed.Because durable.Full) declined = refl
+none_ran wrote synced commit size_limit b inputs old (failed.Because durable.Spent) declined = refl

@@ -3,6 +3,8 @@ use Rattle.std.specs.Prelude.{◌≡◌, ◌≢◌, ◌⊎◌, ℕ, List, [], �
 use Rattle.std.proofs.Common.{inl, inr, sym, ◌∙◌, ap, append_assoc}
 use Rattle.std.proofs.lemmas.List.{append_cancel_left}
 use Rattle.curp_base.specs.Words.{Each, all_of}
+use Rattle.curp_base.specs.declared.failed.Failed.{Failed}
+use Rattle.curp_base.specs.declared.failed.Failed.TheVariants as failed
 use Rattle.curp_journal.specs.declared.arrived.Arrived.{Arrived}
 use Rattle.curp_msg.specs.Moved.{Moved}
 use Rattle.curp_msg.specs.Input.{Input}
@@ -78,11 +80,11 @@ module _ (content title : List ℕ) where
   pub exists : {N : Type 0} (machine : N → Input → Moved N) (opening : N) (commit : ℕ) (stand : Standing N) → IsOpened machine content title opening commit stand → Exists content title
   exists machine opening commit stand o = (λ none. formatted o.batches o.reads.byte o.reads.rest o.reads.is none, λ place d. not_both o.batches commit place o.reads d)
 
-  pub only_cause : (e : OpenError) → OpensNot content title e → IsOnlyCause content title e
-  only_cause opened.NotFormatted none = λ place d. formatted d.batches 1 d.rest d.is none
-  only_cause (opened.Damaged place) d = (λ none. formatted d.batches 1 d.rest d.is none, λ other e. damaged_once other place e d)
-  only_cause opened.DiskFault why = tt
-  only_cause opened.NoMemory why = tt
+  pub only_cause : (e : Failed OpenError) → OpensNot content title e → IsOnlyCause content title e
+  only_cause (failed.Because opened.NotFormatted) none = λ place d. formatted d.batches 1 d.rest d.is none
+  only_cause (failed.Because (opened.Damaged place)) d = (λ none. formatted d.batches 1 d.rest d.is none, λ other e. damaged_once other place e d)
+  only_cause (failed.Because opened.DiskFault) why = tt
+  only_cause failed.NoMemory why = tt
 
   pub one_list : (inputs others : List Arrived) → HoldsJournal content title inputs → HoldsJournal content title others → inputs ≡ others
   one_list inputs others h k = sym h.all ∙ ap all_of (reads_once h.batches k.batches h.commit k.commit h.reads k.reads) ∙ k.all
@@ -96,8 +98,8 @@ module _ (content title : List ℕ) where
   opened_so machine opening commit stand inputs o h = ap all_of (reads_once o.batches h.batches commit h.commit o.reads h.reads) ∙ h.all
 
   -- a journal that is there is refused for no cause that says something of the bytes
-  pub of_the_moment : (e : OpenError) (inputs : List Arrived) → OpensNot content title e → HoldsJournal content title inputs → IsOfTheMoment e
-  of_the_moment opened.NotFormatted inputs none h = formatted h.batches h.reads.byte h.reads.rest h.reads.is none
-  of_the_moment (opened.Damaged place) inputs d h = not_both h.batches h.commit place h.reads d
-  of_the_moment opened.DiskFault inputs why h = tt
-  of_the_moment opened.NoMemory inputs why h = tt
+  pub of_the_moment : (e : Failed OpenError) (inputs : List Arrived) → OpensNot content title e → HoldsJournal content title inputs → IsOfTheMoment e
+  of_the_moment (failed.Because opened.NotFormatted) inputs none h = formatted h.batches h.reads.byte h.reads.rest h.reads.is none
+  of_the_moment (failed.Because (opened.Damaged place)) inputs d h = not_both h.batches h.commit place h.reads d
+  of_the_moment (failed.Because opened.DiskFault) inputs why h = tt
+  of_the_moment failed.NoMemory inputs why h = tt

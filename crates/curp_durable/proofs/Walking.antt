@@ -3,6 +3,8 @@ use Rattle.std.specs.Prelude.{◌≡◌, ◌≢◌, ℕ, ◌+◌, ◌<◌, ◌�
 use Rattle.std.proofs.Common.{sym, ◌∙◌, ap, subst, arith, append_assoc, length-append, take-append-drop}
 use Rattle.std.proofs.lemmas.List.{append-nil, drop_at, drop-drop, length-drop, take_at, drop_more}
 use Rattle.curp_base.specs.Words.{all_of}
+use Rattle.curp_base.specs.declared.failed.Failed.{Failed}
+use Rattle.curp_base.specs.declared.failed.Failed.TheVariants as failed
 use Rattle.curp_journal.specs.declared.arrived.Arrived.{Arrived}
 use Rattle.curp_msg.specs.Moved.{Moved}
 use Rattle.curp_msg.specs.Input.{Input}
@@ -109,11 +111,11 @@ module _ {N : Type 0} (machine : N → Input → Moved N) (bytes : List ℕ) (ba
   from_none : FindsNone (drop at bytes) → IsDamaged content title commit
   from_none f = record { batches = w.by.batches; rest = f.rest; is = splits (1 ∷ f.rest) f.is; at = w.by.walked.place; encoded = w.by.walked.encoded; stuck = f.none }
 
-  pub from_stuck : (error : OpenError) → FindsNot bytes at error → OpensNot content title (error_at commit error)
-  from_stuck opened.NotFormatted f = absurd f
-  from_stuck (opened.Damaged place) f = from_none f.0
-  from_stuck opened.DiskFault f = absurd f
-  from_stuck opened.NoMemory f = tt
+  pub from_stuck : (error : Failed OpenError) → FindsNot bytes at error → OpensNot content title (error_at commit error)
+  from_stuck (failed.Because opened.NotFormatted) f = absurd f
+  from_stuck (failed.Because (opened.Damaged place)) f = from_none f.0
+  from_stuck (failed.Because opened.DiskFault) f = absurd f
+  from_stuck failed.NoMemory f = tt
 
 -- all bytes, from the first commit byte on
 pub from_starts : {N : Type 0} (machine : N → Input → Moved N) (content title : List ℕ) (opening : N) (stand : Standing N) → StartsJournal content title → stand ≡ begun opening → WalkedFrom machine content 0 (length title) stand content title opening

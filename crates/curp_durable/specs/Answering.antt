@@ -1,6 +1,8 @@
 -- Why a batch was not taken.
 use Rattle.std.specs.Prelude.{◌≡◌, ℕ, ◌+◌, ◌<◌, ◌≤◌, ◌^◌, ◌⊎◌, true, false, ⊤, List, [], ◌∷◌, ◌++◌, length}
 use Rattle.curp_base.specs.Words.{Each}
+use Rattle.curp_base.specs.declared.failed.Failed.{Failed}
+use Rattle.curp_base.specs.declared.failed.Failed.TheVariants as failed
 use Rattle.curp_batches.specs.Arrivals.{arrival}
 use Rattle.curp_batches.specs.Batches.{batch_of}
 use Rattle.curp_io.specs.Streams.{Rose}
@@ -42,12 +44,12 @@ pub record Decides {N : Type 0} (machine : N → Input → Moved N) (s : Standin
   pub piece_is : IsPiece commit size_limit (taken machine s inputs) piece
 
 -- why a batch isn't taken, before anything is done
-abbrev pub Declines : (commit size_limit : ℕ) → List Arrived → DurableError → Type 0
-Declines commit size_limit inputs durable.NoEncoding = HaveNoEncoding inputs
-Declines commit size_limit inputs durable.Full = HasEncoding inputs × (size_limit < end_of commit inputs)
-Declines commit size_limit inputs durable.NoMemory = ⊤
-Declines commit size_limit inputs durable.DiskFault = ⊥
-Declines commit size_limit inputs durable.Spent = ⊥
+abbrev pub Declines : (commit size_limit : ℕ) → List Arrived → Failed DurableError → Type 0
+Declines commit size_limit inputs (failed.Because durable.NoEncoding) = HaveNoEncoding inputs
+Declines commit size_limit inputs (failed.Because durable.Full) = HasEncoding inputs × (size_limit < end_of commit inputs)
+Declines commit size_limit inputs failed.NoMemory = ⊤
+Declines commit size_limit inputs (failed.Because durable.DiskFault) = ⊥
+Declines commit size_limit inputs (failed.Because durable.Spent) = ⊥
 
 -- why nothing was decided: the node stands where it stood, or the memory ran out when it was asked
 abbrev pub Stops : {N : Type 0} → (old new : Standing N) → (commit size_limit : ℕ) → List Arrived → Undecided → Type 0
@@ -55,9 +57,9 @@ Stops old new commit size_limit inputs (stopped.Unchanged why) = (new ≡ old) �
 Stops old new commit size_limit inputs stopped.Moved = HasEncoding inputs
 
 -- Why a batch was refused, and what was then changed: by each error a cause
-abbrev pub RefusesBatch : {N D : Type 0} → (D → ℕ) → DurableParts N D → DurableParts N D → List Arrived → DurableError → Type 0
-RefusesBatch faults old new inputs durable.Spent = (old.spent ≡ true) × (new ≡ old)
-RefusesBatch faults old new inputs durable.NoEncoding = (old.spent ≡ false) × HaveNoEncoding inputs × (new ≡ old)
-RefusesBatch faults old new inputs durable.Full = (old.spent ≡ false) × HasEncoding inputs × (old.size_limit < end_of old.commit inputs) × (new ≡ old)
-RefusesBatch faults old new inputs durable.DiskFault = (old.spent ≡ false) × HasEncoding inputs × Rose (faults old.disk) (faults new.disk) × (new.spent ≡ true)
-RefusesBatch faults old new inputs durable.NoMemory = (old.spent ≡ false) × (new.spent ≡ false → new ≡ old) × (new.spent ≡ true → HasEncoding inputs)
+abbrev pub RefusesBatch : {N D : Type 0} → (D → ℕ) → DurableParts N D → DurableParts N D → List Arrived → Failed DurableError → Type 0
+RefusesBatch faults old new inputs (failed.Because durable.Spent) = (old.spent ≡ true) × (new ≡ old)
+RefusesBatch faults old new inputs (failed.Because durable.NoEncoding) = (old.spent ≡ false) × HaveNoEncoding inputs × (new ≡ old)
+RefusesBatch faults old new inputs (failed.Because durable.Full) = (old.spent ≡ false) × HasEncoding inputs × (old.size_limit < end_of old.commit inputs) × (new ≡ old)
+RefusesBatch faults old new inputs (failed.Because durable.DiskFault) = (old.spent ≡ false) × HasEncoding inputs × Rose (faults old.disk) (faults new.disk) × (new.spent ≡ true)
+RefusesBatch faults old new inputs failed.NoMemory = (old.spent ≡ false) × (new.spent ≡ false → new ≡ old) × (new.spent ≡ true → HasEncoding inputs)

@@ -2,6 +2,8 @@
 use Rattle.std.specs.Prelude.{◌≡◌, ◌≢◌, ℕ, ◌+◌, ◌<◌, ◌^◌, List, ◌∷◌, ◌++◌, length, drop, Option, Some, None, ⊤}
 use Rattle.std.specs.Int.{to_be_bytes, w32}
 use Rattle.curp_base.specs.Words.{Each, all_of}
+use Rattle.curp_base.specs.declared.failed.Failed.{Failed}
+use Rattle.curp_base.specs.declared.failed.Failed.TheVariants as failed
 use Rattle.curp_journal.specs.declared.arrived.Arrived.{Arrived}
 use Rattle.curp_msg.specs.Moved.{Moved}
 use Rattle.curp_msg.specs.Input.{Input}
@@ -56,18 +58,18 @@ FindsBatch content commit None = FindsShut (drop commit content)
 FindsBatch content commit (Some found) = (step : ℕ) × FindsRecord (drop commit content) found.batch.items step × (found.behind ≡ commit + step)
 
 -- an open commit byte with no record that can stand there
-abbrev pub FindsNot : List ℕ → ℕ → OpenError → Type 0
-FindsNot content commit opened.NotFormatted = ⊥
-FindsNot content commit (opened.Damaged place) = FindsNone (drop commit content) × (place ≡ commit)
-FindsNot content commit opened.DiskFault = ⊥
-FindsNot content commit opened.NoMemory = ⊤
+abbrev pub FindsNot : List ℕ → ℕ → Failed OpenError → Type 0
+FindsNot content commit (failed.Because opened.NotFormatted) = ⊥
+FindsNot content commit (failed.Because (opened.Damaged place)) = FindsNone (drop commit content) × (place ≡ commit)
+FindsNot content commit (failed.Because opened.DiskFault) = ⊥
+FindsNot content commit failed.NoMemory = ⊤
 
 -- the same cause, at another place
-abbrev pub error_at : ℕ → OpenError → OpenError
-error_at place opened.NotFormatted = opened.NotFormatted
-error_at place (opened.Damaged other) = opened.Damaged place
-error_at place opened.DiskFault = opened.DiskFault
-error_at place opened.NoMemory = opened.NoMemory
+abbrev pub error_at : ℕ → Failed OpenError → Failed OpenError
+error_at place (failed.Because opened.NotFormatted) = failed.Because opened.NotFormatted
+error_at place (failed.Because (opened.Damaged other)) = failed.Because (opened.Damaged place)
+error_at place (failed.Because opened.DiskFault) = failed.Because opened.DiskFault
+error_at place failed.NoMemory = failed.NoMemory
 
 -- ---- all records
 
@@ -111,11 +113,11 @@ pub record IsOpened {N : Type 0} (machine : N → Input → Moved N) (content ti
   pub stand_is : stand ≡ after machine (begun opening) (all_of batches)
 
 -- why there is no journal to open
-abbrev pub OpensNot : List ℕ → List ℕ → OpenError → Type 0
-OpensNot content title opened.NotFormatted = IsNotFormatted content title
-OpensNot content title (opened.Damaged place) = IsDamaged content title place
-OpensNot content title opened.DiskFault = ⊤
-OpensNot content title opened.NoMemory = ⊤
+abbrev pub OpensNot : List ℕ → List ℕ → Failed OpenError → Type 0
+OpensNot content title (failed.Because opened.NotFormatted) = IsNotFormatted content title
+OpensNot content title (failed.Because (opened.Damaged place)) = IsDamaged content title place
+OpensNot content title (failed.Because opened.DiskFault) = ⊤
+OpensNot content title failed.NoMemory = ⊤
 
 -- a title stands at the start, and a commit byte behind it
 pub record StartsJournal (content title : List ℕ) : Type 0 where
@@ -130,15 +132,15 @@ abbrev pub Exists : List ℕ → List ℕ → Type 0
 Exists content title = (IsNotFormatted content title → ⊥) × ((place : ℕ) → IsDamaged content title place → ⊥)
 
 -- where the cause is one of these, no other holds
-abbrev pub IsOnlyCause : List ℕ → List ℕ → OpenError → Type 0
-IsOnlyCause content title opened.NotFormatted = (place : ℕ) → IsDamaged content title place → ⊥
-IsOnlyCause content title (opened.Damaged place) = (IsNotFormatted content title → ⊥) × ((other : ℕ) → IsDamaged content title other → other ≡ place)
-IsOnlyCause content title opened.DiskFault = ⊤
-IsOnlyCause content title opened.NoMemory = ⊤
+abbrev pub IsOnlyCause : List ℕ → List ℕ → Failed OpenError → Type 0
+IsOnlyCause content title (failed.Because opened.NotFormatted) = (place : ℕ) → IsDamaged content title place → ⊥
+IsOnlyCause content title (failed.Because (opened.Damaged place)) = (IsNotFormatted content title → ⊥) × ((other : ℕ) → IsDamaged content title other → other ≡ place)
+IsOnlyCause content title (failed.Because opened.DiskFault) = ⊤
+IsOnlyCause content title failed.NoMemory = ⊤
 
 -- neither of the causes that say something of the disk's bytes
-abbrev pub IsOfTheMoment : OpenError → Type 0
-IsOfTheMoment opened.NotFormatted = ⊥
-IsOfTheMoment (opened.Damaged place) = ⊥
-IsOfTheMoment opened.DiskFault = ⊤
-IsOfTheMoment opened.NoMemory = ⊤
+abbrev pub IsOfTheMoment : Failed OpenError → Type 0
+IsOfTheMoment (failed.Because opened.NotFormatted) = ⊥
+IsOfTheMoment (failed.Because (opened.Damaged place)) = ⊥
+IsOfTheMoment (failed.Because opened.DiskFault) = ⊤
+IsOfTheMoment failed.NoMemory = ⊤

@@ -1,5 +1,7 @@
 -- Which calls of the disk keep what is taken of a batch, and how many of them were made.
 use Rattle.std.specs.Prelude.{◌≡◌, ◌⊎◌, ℕ, ◌+◌, List, [], ◌∷◌, ◌++◌, length}
+use Rattle.curp_base.specs.declared.failed.Failed.{Failed}
+use Rattle.curp_base.specs.declared.failed.Failed.TheVariants as failed
 use Rattle.curp_disk.specs.declared.disk.Did.{Did}
 use Rattle.curp_disk.specs.declared.disk.Did.TheVariants as did
 use Rattle.curp_disk.specs.declared.medium.Call.{Call}
@@ -61,7 +63,7 @@ commit_behind commit [] = commit
 commit_behind commit (a ∷ more) = commit + length (record_of (a ∷ more))
 
 -- How far these calls went where the batch was refused: to one at which the disk failed or ran out of memory, and else nowhere
-abbrev pub RanUntil : {D : Type 0} → (D → ℕ → List ℕ → Did → D → Type 0) → (D → Did → D → Type 0) → (commit : ℕ) → List Arrived → (old new : D) → DurableError → Type 0
-RanUntil wrote synced commit b old new durable.DiskFault = HasEncoding b × MadeUntil wrote synced did.Failed (calls_for commit b) old new
-RanUntil wrote synced commit b old new durable.NoMemory = (new ≡ old) ⊎ MadeUntil wrote synced did.NoMemory (calls_for commit b) old new
+abbrev pub RanUntil : {D : Type 0} → (D → ℕ → List ℕ → Did → D → Type 0) → (D → Did → D → Type 0) → (commit : ℕ) → List Arrived → (old new : D) → Failed DurableError → Type 0
+RanUntil wrote synced commit b old new (failed.Because durable.DiskFault) = HasEncoding b × MadeUntil wrote synced did.Failed (calls_for commit b) old new
+RanUntil wrote synced commit b old new failed.NoMemory = (new ≡ old) ⊎ MadeUntil wrote synced did.NoMemory (calls_for commit b) old new
 RanUntil wrote synced commit b old new _ = new ≡ old

@@ -4,9 +4,9 @@ ghost use Rattle.curp_durable.specs.Answering.{Decides, Declines, IsRecord, Stop
 ghost use Rattle.curp_durable.specs.Journal.{HasEncoding, behind_length};
 ghost use Rattle.curp_durable.specs.Standing.{after, made_inputs, taken};
 
-use crate::error::DurableError;
+use crate::error::{DurableError, durable_error};
 use crate::stand::{Answered, Stand, count_made, made_inputs};
-use curp_base::NoMemory;
+use curp_base::{Failed, NoMemory};
 use curp_batches::encode;
 use curp_journal::Arrived;
 use curp_msg::Core;
@@ -23,7 +23,7 @@ pub(crate) struct Decided {
 #[derive(Clone, Copy, Debug, PartialEq, Eq)]
 pub(crate) enum Undecided {
     /// Before the node was asked.
-    Unchanged(DurableError),
+    Unchanged(Failed<DurableError>),
     /// Memory ran out once it was asked.
     Moved,
 }
@@ -64,16 +64,16 @@ fn record_of(
     commit: u64,
     size_limit: u64,
     inputs: &[Arrived],
-) -> Result<Vec<u8>, DurableError>
+) -> Result<Vec<u8>, Failed<DurableError>>
     ensures ok { IfOk result (λ piece. IsRecord commit size_limit inputs.now piece.items) }
     ensures err { IfErr result (Declines commit size_limit inputs.now) }
 {
-    let bytes = encode(alloc, inputs)?;
+    let bytes = encode(alloc, inputs).map_err(durable_error)?;
     if !is_short(&bytes) {
-        return Err(DurableError::NoEncoding);
+        return Err(Failed::Because(DurableError::NoEncoding));
     }
     if !has_room(commit, size_limit, bytes.len()) {
-        return Err(DurableError::Full);
+        return Err(Failed::Because(DurableError::Full));
     }
     Ok(piece_of(alloc, &bytes)?)
 }
@@ -121,7 +121,7 @@ fn record_again(
     commit: u64,
     size_limit: u64,
     answers: &[Answered],
-) -> Result<Vec<u8>, DurableError>
+) -> Result<Vec<u8>, Failed<DurableError>>
     ensures { IfOk result (λ piece. IsRecord commit size_limit (made_inputs answers.now) piece.items) }
 {
     let inputs = made_inputs(alloc, answers)?;

@@ -18,7 +18,7 @@ use crate::error::{DurableError, OpenError};
 use crate::opening::{recover, resume};
 use crate::stand::{Answered, Stand, done_in};
 use crate::writing::{Kept, append};
-use curp_base::NoMemory;
+use curp_base::{Failed, NoMemory};
 use curp_disk::{Disk, StopDisk};
 use curp_journal::{Arrived, Named};
 use curp_msg::{Core, Done, Local};
@@ -62,7 +62,7 @@ impl<N: Core, D: Disk> Model for Durable<N, D> {
 /// Why a journal wasn't opened, with its disk.
 #[derive(Drop)]
 pub struct OpenFailed<D> {
-    pub error: OpenError,
+    pub error: Failed<OpenError>,
     pub disk: D,
 }
 
@@ -87,10 +87,10 @@ impl<N: Core + Drop, D: Disk> Durable<N, D> {
         ensures quiet { IfOk result (λ d. Quiet D.seen D.may_leave D.moment D.left_since disk d.disk) }
         ensures err { D.tells ≡ true → IfErr result (λ f. OpensNot (D.seen disk) title.now f.error) }
         ensures quiet_err { IfErr result (λ f. Quiet D.seen D.may_leave D.moment D.left_since disk f.disk) }
-        ensures cause { IfErr result (λ f. f.error ≡ OpenError.DiskFault → Rose (D.faults disk) (D.faults f.disk)) }
+        ensures cause { IfErr result (λ f. f.error ≡ Failed.Because OpenError.DiskFault → Rose (D.faults disk) (D.faults f.disk)) }
         ensures never_falls { IfOk result (λ d. D.faults disk ≤ D.faults d.disk) }
         ensures sound { D.sound disk → IfOk result (λ d. D.sound d.disk) }
-        ensures sound_err { D.sound disk → IfErr result (λ f. (f.error ≢ OpenError.DiskFault) × D.sound f.disk) }
+        ensures sound_err { D.sound disk → IfErr result (λ f. (f.error ≢ Failed.Because OpenError.DiskFault) × D.sound f.disk) }
         ensures only_there { D.tells ≡ true → OnOk result (Exists (D.seen disk) title.now) }
         ensures one_cause { D.tells ≡ true → IfErr result (λ f. IsOnlyCause (D.seen disk) title.now f.error) }
         ensures journal { (inputs : List Arrived) → D.tells ≡ true → HoldsJournal (D.seen disk) title.now inputs
@@ -134,10 +134,10 @@ impl<N: Core + Drop, D: Disk> Durable<N, D> {
             → LedTo N.machine (D.seen disk) title opening checkpoint
             → IfErr result (λ f. OpensNot (D.seen disk) title f.error) }
         ensures quiet_err { IfErr result (λ f. Quiet D.seen D.may_leave D.moment D.left_since disk f.disk) }
-        ensures cause { IfErr result (λ f. f.error ≡ OpenError.DiskFault → Rose (D.faults disk) (D.faults f.disk)) }
+        ensures cause { IfErr result (λ f. f.error ≡ Failed.Because OpenError.DiskFault → Rose (D.faults disk) (D.faults f.disk)) }
         ensures never_falls { IfOk result (λ d. D.faults disk ≤ D.faults d.disk) }
         ensures sound { D.sound disk → IfOk result (λ d. D.sound d.disk) }
-        ensures sound_err { D.sound disk → IfErr result (λ f. (f.error ≢ OpenError.DiskFault) × D.sound f.disk) }
+        ensures sound_err { D.sound disk → IfErr result (λ f. (f.error ≢ Failed.Because OpenError.DiskFault) × D.sound f.disk) }
         ensures journal { (title : List ℕ) (opening : N) (inputs : List Arrived) → D.tells ≡ true
             → LedTo N.machine (D.seen disk) title opening checkpoint → HoldsJournal (D.seen disk) title inputs
             → IfOk result (λ d. IsSettled N.machine D.seen D.may_leave d.disk d.stand d.commit title opening inputs) }
@@ -175,7 +175,7 @@ impl<N: Core + Drop, D: Disk> Durable<N, D> {
     }
 
     /// A batch comes. Those of it that the node takes stand on the disk, in one record, before anything is answered.
-    pub fn on_all(&mut self, inputs: Vec<Arrived>) -> Result<Vec<Answered>, DurableError>
+    pub fn on_all(&mut self, inputs: Vec<Arrived>) -> Result<Vec<Answered>, Failed<DurableError>>
         ensures answers { IfOk result (λ answers. answers.items ≡ answers_of N.machine self.old.stand inputs.items) }
         ensures state { OnOk result (self.new.stand ≡ after N.machine self.old.stand inputs.items) }
         ensures goes_on { OnOk result ((self.old.spent ≡ false) × (self.new.spent ≡ false)) }
@@ -196,11 +196,11 @@ impl<N: Core + Drop, D: Disk> Durable<N, D> {
             → IsSettled N.machine D.seen D.may_leave self.old.disk self.old.stand self.old.commit title opening so_far
             → LeavesOnly D.moment D.left_since self.old.disk self.new.disk
             (IsBeforeOrAfter title so_far (taken N.machine self.old.stand inputs.items)) }
-        ensures sound { D.sound self.old.disk → (result ≢ Err DurableError.DiskFault) × D.sound self.new.disk }
+        ensures sound { D.sound self.old.disk → (result ≢ Err (Failed.Because DurableError.DiskFault)) × D.sound self.new.disk }
         ensures never_falls { D.faults self.old.disk ≤ D.faults self.new.disk }
     {
         if self.spent {
-            return Err(DurableError::Spent);
+            return Err(Failed::Because(DurableError::Spent));
         }
         let size_limit = self.size_limit;
         match decide(self.alloc, &mut self.stand, self.commit, size_limit, inputs) {
@@ -215,25 +215,25 @@ impl<N: Core + Drop, D: Disk> Durable<N, D> {
                     }
                     Kept::Failed => {
                         self.spent = true;
-                        Err(DurableError::DiskFault)
+                        Err(Failed::Because(DurableError::DiskFault))
                     }
                     Kept::NoMemory => {
                         self.spent = true;
-                        Err(DurableError::NoMemory)
+                        Err(Failed::NoMemory)
                     }
                 }
             }
             Err(Undecided::Unchanged(why)) => Err(why),
             Err(Undecided::Moved) => {
                 self.spent = true;
-                Err(DurableError::NoMemory)
+                Err(Failed::NoMemory)
             }
         }
     }
 
     /// What comes alone is a batch of one; it is answered by what the node does. Its number is then the count, and its
     /// stamp the last stamp. Where no stamp is left it is refused by 255.
-    pub fn on(&mut self, arrived: Arrived) -> Result<Done, DurableError>
+    pub fn on(&mut self, arrived: Arrived) -> Result<Done, Failed<DurableError>>
         ensures done { IfOk result (λ done. done ≡ done_by N.machine self.old.stand arrived) }
         ensures state { OnOk result (self.new.stand ≡ stepped N.machine self.old.stand arrived) }
         ensures goes_on { OnOk result ((self.old.spent ≡ false) × (self.new.spent ≡ false)) }
@@ -254,15 +254,15 @@ impl<N: Core + Drop, D: Disk> Durable<N, D> {
             → IsSettled N.machine D.seen D.may_leave self.old.disk self.old.stand self.old.commit title opening so_far
             → LeavesOnly D.moment D.left_since self.old.disk self.new.disk
             (IsBeforeOrAfter title so_far (taken N.machine self.old.stand (arrived ∷ []))) }
-        ensures sound { D.sound self.old.disk → (result ≢ Err DurableError.DiskFault) × D.sound self.new.disk }
+        ensures sound { D.sound self.old.disk → (result ≢ Err (Failed.Because DurableError.DiskFault)) × D.sound self.new.disk }
         ensures never_falls { D.faults self.old.disk ≤ D.faults self.new.disk }
     {
         if self.spent() {
-            return Err(DurableError::Spent);
+            return Err(Failed::Because(DurableError::Spent));
         }
         let alloc = self.alloc();
         let Ok(inputs) = alone(alloc, arrived) else {
-            return Err(DurableError::NoMemory);
+            return Err(Failed::NoMemory);
         };
         match self.on_all(inputs) {
             Ok(answers) => Ok(done_in(alloc, answers)),
@@ -271,7 +271,7 @@ impl<N: Core + Drop, D: Disk> Durable<N, D> {
     }
 
     /// A message comes to the node, with its sender's name for it.
-    pub fn on_message(&mut self, named: Named) -> Result<Done, DurableError>
+    pub fn on_message(&mut self, named: Named) -> Result<Done, Failed<DurableError>>
         ensures done { IfOk result (λ done. done ≡ done_by N.machine self.old.stand (arrived.Message named)) }
         ensures state { OnOk result (self.new.stand ≡ stepped N.machine self.old.stand (arrived.Message named)) }
         ensures goes_on { OnOk result ((self.old.spent ≡ false) × (self.new.spent ≡ false)) }
@@ -292,14 +292,14 @@ impl<N: Core + Drop, D: Disk> Durable<N, D> {
             → IsSettled N.machine D.seen D.may_leave self.old.disk self.old.stand self.old.commit title opening so_far
             → LeavesOnly D.moment D.left_since self.old.disk self.new.disk
             (IsBeforeOrAfter title so_far (taken N.machine self.old.stand (arrived.Message named ∷ []))) }
-        ensures sound { D.sound self.old.disk → (result ≢ Err DurableError.DiskFault) × D.sound self.new.disk }
+        ensures sound { D.sound self.old.disk → (result ≢ Err (Failed.Because DurableError.DiskFault)) × D.sound self.new.disk }
         ensures never_falls { D.faults self.old.disk ≤ D.faults self.new.disk }
     {
         self.on(Arrived::Message(named))
     }
 
     /// The node gets an order, with a stamp.
-    pub fn on_order(&mut self, order: Local, stamp: u64) -> Result<Done, DurableError>
+    pub fn on_order(&mut self, order: Local, stamp: u64) -> Result<Done, Failed<DurableError>>
         ensures done { IfOk result (λ done. done ≡ done_by N.machine self.old.stand (arrived.Local order stamp)) }
         ensures state { OnOk result (self.new.stand ≡ stepped N.machine self.old.stand (arrived.Local order stamp)) }
         ensures goes_on { OnOk result ((self.old.spent ≡ false) × (self.new.spent ≡ false)) }
@@ -320,7 +320,7 @@ impl<N: Core + Drop, D: Disk> Durable<N, D> {
             → IsSettled N.machine D.seen D.may_leave self.old.disk self.old.stand self.old.commit title opening so_far
             → LeavesOnly D.moment D.left_since self.old.disk self.new.disk
             (IsBeforeOrAfter title so_far (taken N.machine self.old.stand (arrived.Local order stamp ∷ []))) }
-        ensures sound { D.sound self.old.disk → (result ≢ Err DurableError.DiskFault) × D.sound self.new.disk }
+        ensures sound { D.sound self.old.disk → (result ≢ Err (Failed.Because DurableError.DiskFault)) × D.sound self.new.disk }
         ensures never_falls { D.faults self.old.disk ≤ D.faults self.new.disk }
     {
         self.on(Arrived::Local(order, stamp))

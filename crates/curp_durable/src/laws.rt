@@ -1,5 +1,6 @@
 //! Laws of journals. Each is the contract of a function that does nothing: a caller has it by calling that function.
 ghost use Rattle.std.specs.Prelude.{◌≡◌, ℕ, Bool, List};
+ghost use Rattle.curp_base.specs.declared.failed.Failed.{Failed};
 ghost use Rattle.curp_disk.specs.Calls.{seen_of};
 ghost use Rattle.curp_disk.specs.InMemory.{StopParts, crashed};
 ghost use Rattle.curp_journal.specs.declared.arrived.Arrived.{Arrived};
@@ -31,7 +32,7 @@ pub fn damage_has_one_place()
 
 /// Where one cause why there is no journal holds, no other does.
 pub fn a_cause_excludes_others()
-    ensures { (content title : List ℕ) (error : OpenError) → OpensNot content title error
+    ensures { (content title : List ℕ) (error : Failed OpenError) → OpensNot content title error
         → IsOnlyCause content title error }
 {}
 

@@ -9,6 +9,7 @@ ghost use Rattle.curp_durable.specs.Opening.{WalkedBy, WalkedFrom, error_at};
 
 use crate::error::OpenError;
 use crate::stand::Stand;
+use curp_base::Failed;
 use curp_batches::batch_in;
 use curp_disk::{Did, Disk, Long};
 use curp_journal::Arrived;
@@ -52,18 +53,22 @@ fn next_in(bytes: &[u8]) -> AtCommit
 }
 
 /// The batch behind a commit byte; none behind a shut commit byte.
-fn batch_at(alloc: Global, content: &[u8], commit: usize) -> Result<Option<FoundBatch>, OpenError>
+fn batch_at(
+    alloc: Global,
+    content: &[u8],
+    commit: usize,
+) -> Result<Option<FoundBatch>, Failed<OpenError>>
     requires within { commit < length content.now }
     ensures ok { IfOk result (FindsBatch content.now commit) }
     ensures err { IfErr result (FindsNot content.now commit) }
-    ensures no_fault { IfErr result (λ e. e ≢ OpenError.DiskFault) }
+    ensures no_fault { IfErr result (λ e. e ≢ Failed.Because OpenError.DiskFault) }
 {
     let bytes = &content[commit..];
     match next_in(bytes) {
         AtCommit::Shut => Ok(None),
-        AtCommit::Cut => Err(OpenError::Damaged {
+        AtCommit::Cut => Err(Failed::Because(OpenError::Damaged {
             place: commit as u64,
-        }),
+        })),
         AtCommit::Piece { length } => piece_at(alloc, content, commit, length),
     }
 }
@@ -74,32 +79,34 @@ fn piece_at(
     content: &[u8],
     commit: usize,
     len: usize,
-) -> Result<Option<FoundBatch>, OpenError>
+) -> Result<Option<FoundBatch>, Failed<OpenError>>
     requires finds { FindsPiece (drop commit content.now) len }
     requires within { commit + 5 + len < length content.now }
     ensures ok { IfOk result (FindsBatch content.now commit) }
     ensures err { IfErr result (FindsNot content.now commit) }
-    ensures no_fault { IfErr result (λ e. e ≢ OpenError.DiskFault) }
+    ensures no_fault { IfErr result (λ e. e ≢ Failed.Because OpenError.DiskFault) }
 {
     let start = commit + 5;
     let behind = start + len;
     let Ok(read) = batch_in(alloc, &content[start..behind]) else {
-        return Err(OpenError::NoMemory);
+        return Err(Failed::NoMemory);
     };
     match read {
         Some(batch) => Ok(Some(FoundBatch { batch, behind })),
-        None => Err(OpenError::Damaged {
+        None => Err(Failed::Because(OpenError::Damaged {
             place: commit as u64,
-        }),
+        })),
     }
 }
 
 /// The same cause, at another place.
-fn error_at(error: OpenError, place: u64) -> OpenError
+fn error_at(error: Failed<OpenError>, place: u64) -> Failed<OpenError>
     ensures { result ≡ error_at place error }
 {
     match error {
-        OpenError::Damaged { place: _ } => OpenError::Damaged { place },
+        Failed::Because(OpenError::Damaged { place: _ }) => {
+            Failed::Because(OpenError::Damaged { place })
+        }
         other => other,
     }
 }
@@ -112,7 +119,7 @@ fn walk<N: Core + Drop>(
     base: u64,
     first: usize,
     mut stand: Stand<N>,
-) -> Result<(Stand<N>, u64), OpenError>
+) -> Result<(Stand<N>, u64), Failed<OpenError>>
     requires within { first < length bytes.now }
     requires fits { base + length bytes.now < 2 ^ 64 }
     ensures ok { (content title : List ℕ) (opening : N)
@@ -122,7 +129,7 @@ fn walk<N: Core + Drop>(
     ensures err { (content title : List ℕ) (opening : N)
         → WalkedFrom N.machine bytes.now base first stand content title opening
         → IfErr result (OpensNot content title) }
-    ensures no_fault { IfErr result (λ e. e ≢ OpenError.DiskFault) }
+    ensures no_fault { IfErr result (λ e. e ≢ Failed.Because OpenError.DiskFault) }
 {
     let mut at = first;
     'commits: loop {
@@ -132,7 +139,7 @@ fn walk<N: Core + Drop>(
                 let behind = found.behind;
                 match stand.step_all(alloc, found.batch) {
                     Ok(_) => at = behind,
-                    Err(_) => return Err(OpenError::NoMemory),
+                    Err(_) => return Err(Failed::NoMemory),
                 }
             }
             Ok(None) => return Ok((stand, place)),
@@ -148,7 +155,7 @@ fn go_on<N: Core + Drop>(
     bytes: &[u8],
     commit: u64,
     stand: Stand<N>,
-) -> Result<(Stand<N>, u64), OpenError>
+) -> Result<(Stand<N>, u64), Failed<OpenError>>
     requires fits { commit + length bytes.now < 2 ^ 64 }
     ensures ok { (content title : List ℕ) (opening : N)
         → WalkedFrom N.machine bytes.now commit 0 stand content title opening
@@ -157,10 +164,10 @@ fn go_on<N: Core + Drop>(
     ensures err { (content title : List ℕ) (opening : N)
         → WalkedFrom N.machine bytes.now commit 0 stand content title opening
         → IfErr result (OpensNot content title) }
-    ensures no_fault { IfErr result (λ e. e ≢ OpenError.DiskFault) }
+    ensures no_fault { IfErr result (λ e. e ≢ Failed.Because OpenError.DiskFault) }
 {
     if bytes.is_empty() {
-        return Err(OpenError::NotFormatted);
+        return Err(Failed::Because(OpenError::NotFormatted));
     }
     walk(alloc, bytes, commit, 0, stand)
 }
@@ -171,25 +178,25 @@ pub(crate) fn replay<N: Core + Drop>(
     content: &[u8],
     title: &[u8],
     node: N,
-) -> Result<(Stand<N>, u64), OpenError>
+) -> Result<(Stand<N>, u64), Failed<OpenError>>
     ensures ok { IfOk result (λ r. IsOpened N.machine content.now title.now node r.1 r.0) }
     ensures within { IfOk result (λ r. r.1 < length content.now) }
     ensures err { IfErr result (OpensNot content.now title.now) }
-    ensures no_fault { IfErr result (λ e. e ≢ OpenError.DiskFault) }
+    ensures no_fault { IfErr result (λ e. e ≢ Failed.Because OpenError.DiskFault) }
 {
     if starts(content, title) {
         walk(alloc, content, 0, title.len(), Stand::begin(node))
     } else {
-        Err(OpenError::NotFormatted)
+        Err(Failed::Because(OpenError::NotFormatted))
     }
 }
 
 /// Walks along the journal from its first commit byte on, and collects what stands there.
-fn collect(alloc: Global, content: &[u8], title: &[u8]) -> Result<Vec<Arrived>, OpenError>
+fn collect(alloc: Global, content: &[u8], title: &[u8]) -> Result<Vec<Arrived>, Failed<OpenError>>
     requires starts { StartsJournal content.now title.now }
     ensures ok { IfOk result (λ inputs. HoldsJournal content.now title.now inputs.items) }
     ensures err { IfErr result (OpensNot content.now title.now) }
-    ensures no_fault { IfErr result (λ e. e ≢ OpenError.DiskFault) }
+    ensures no_fault { IfErr result (λ e. e ≢ Failed.Because OpenError.DiskFault) }
 {
     let mut inputs = Vec::new(alloc);
     let mut commit = title.len();
@@ -207,15 +214,19 @@ fn collect(alloc: Global, content: &[u8], title: &[u8]) -> Result<Vec<Arrived>, 
 
 /// The inputs of the journal of a title, which these bytes begin with. It takes memory for the inputs. Bytes that were read
 /// of a file to which a node still writes are a journal too, of the inputs up to a commit byte that wasn't open yet.
-pub fn inputs_in(alloc: Global, content: &[u8], title: &[u8]) -> Result<Vec<Arrived>, OpenError>
+pub fn inputs_in(
+    alloc: Global,
+    content: &[u8],
+    title: &[u8],
+) -> Result<Vec<Arrived>, Failed<OpenError>>
     ensures ok { IfOk result (λ inputs. HoldsJournal content.now title.now inputs.items) }
     ensures err { IfErr result (OpensNot content.now title.now) }
-    ensures no_fault { IfErr result (λ e. e ≢ OpenError.DiskFault) }
+    ensures no_fault { IfErr result (λ e. e ≢ Failed.Because OpenError.DiskFault) }
 {
     if starts(content, title) {
         collect(alloc, content, title)
     } else {
-        Err(OpenError::NotFormatted)
+        Err(Failed::Because(OpenError::NotFormatted))
     }
 }
 
@@ -239,22 +250,22 @@ fn is_same(one: &[u8], other: &[u8]) -> bool
 }
 
 /// Syncs, so that what is read is what a crash leaves, and says how many bytes there are.
-fn make_ready<D: Disk>(disk: &mut D) -> Result<u64, OpenError>
+fn make_ready<D: Disk>(disk: &mut D) -> Result<u64, Failed<OpenError>>
     ensures quiet { Quiet D.seen D.may_leave D.moment D.left_since disk.old disk.new }
     ensures durable { D.tells ≡ true → OnOk result (Only (D.seen disk.new) (D.may_leave disk.new)) }
     ensures size { D.tells ≡ true → IfOk result (λ size. size ≡ length (D.seen disk.old)) }
     ensures err { IfErr result IsOfTheMoment }
-    ensures sound { D.sound disk.old → (result ≢ Err OpenError.DiskFault) × D.sound disk.new }
-    ensures cause { result ≡ Err OpenError.DiskFault → Rose (D.faults disk.old) (D.faults disk.new) }
+    ensures sound { D.sound disk.old → (result ≢ Err (Failed.Because OpenError.DiskFault)) × D.sound disk.new }
+    ensures cause { result ≡ Err (Failed.Because OpenError.DiskFault) → Rose (D.faults disk.old) (D.faults disk.new) }
     ensures never_falls { D.faults disk.old ≤ D.faults disk.new }
 {
     match disk.sync() {
         Did::Done(_) => match disk.length() {
             Long::Bytes(size) => Ok(size),
-            Long::Failed => Err(OpenError::DiskFault),
+            Long::Failed => Err(Failed::Because(OpenError::DiskFault)),
         },
-        Did::Failed => Err(OpenError::DiskFault),
-        Did::NoMemory => Err(OpenError::NoMemory),
+        Did::Failed => Err(Failed::Because(OpenError::DiskFault)),
+        Did::NoMemory => Err(Failed::NoMemory),
     }
 }
 
@@ -264,39 +275,43 @@ fn bytes_from<D: Disk>(
     disk: &mut D,
     at: u64,
     size: u64,
-) -> Result<Vec<u8>, OpenError>
+) -> Result<Vec<u8>, Failed<OpenError>>
     requires size { D.tells ≡ true → size ≡ length (D.seen disk.old) }
     ensures quiet { Quiet D.seen D.may_leave D.moment D.left_since disk.old disk.new }
     ensures bytes { D.tells ≡ true → IfOk result (λ bytes. bytes.items ≡ drop at (D.seen disk.old)) }
     ensures short { IfOk result (λ bytes. length bytes.items ≤ size - at) }
     ensures err { IfErr result IsOfTheMoment }
-    ensures sound { D.sound disk.old → (result ≢ Err OpenError.DiskFault) × D.sound disk.new }
-    ensures cause { result ≡ Err OpenError.DiskFault → Rose (D.faults disk.old) (D.faults disk.new) }
+    ensures sound { D.sound disk.old → (result ≢ Err (Failed.Because OpenError.DiskFault)) × D.sound disk.new }
+    ensures cause { result ≡ Err (Failed.Because OpenError.DiskFault) → Rose (D.faults disk.old) (D.faults disk.new) }
     ensures never_falls { D.faults disk.old ≤ D.faults disk.new }
 {
     let mut bytes = match vec![in alloc; 0; size.saturating_sub(at) as usize] {
         Ok(bytes) => bytes,
-        Err(_) => return Err(OpenError::NoMemory),
+        Err(_) => return Err(Failed::NoMemory),
     };
     match disk.read(at, &mut bytes) {
         Did::Done(count) => {
             bytes.truncate(count);
             Ok(bytes)
         }
-        Did::Failed => Err(OpenError::DiskFault),
-        Did::NoMemory => Err(OpenError::NoMemory),
+        Did::Failed => Err(Failed::Because(OpenError::DiskFault)),
+        Did::NoMemory => Err(Failed::NoMemory),
     }
 }
 
 /// The bytes of a disk from a place on. It is synced first.
-fn contents_from<D: Disk>(alloc: Global, disk: &mut D, at: u64) -> Result<Vec<u8>, OpenError>
+fn contents_from<D: Disk>(
+    alloc: Global,
+    disk: &mut D,
+    at: u64,
+) -> Result<Vec<u8>, Failed<OpenError>>
     ensures quiet { Quiet D.seen D.may_leave D.moment D.left_since disk.old disk.new }
     ensures bytes { D.tells ≡ true → IfOk result (λ bytes. bytes.items ≡ drop at (D.seen disk.old)) }
     ensures fits { IfOk result (λ bytes. at + length bytes.items < 2 ^ 64) }
     ensures durable { D.tells ≡ true → OnOk result (Only (D.seen disk.new) (D.may_leave disk.new)) }
     ensures err { IfErr result IsOfTheMoment }
-    ensures sound { D.sound disk.old → (result ≢ Err OpenError.DiskFault) × D.sound disk.new }
-    ensures cause { result ≡ Err OpenError.DiskFault → Rose (D.faults disk.old) (D.faults disk.new) }
+    ensures sound { D.sound disk.old → (result ≢ Err (Failed.Because OpenError.DiskFault)) × D.sound disk.new }
+    ensures cause { result ≡ Err (Failed.Because OpenError.DiskFault) → Rose (D.faults disk.old) (D.faults disk.new) }
     ensures never_falls { D.faults disk.old ≤ D.faults disk.new }
 {
     let size = make_ready(disk)?;
@@ -309,14 +324,14 @@ pub(crate) fn recover<N: Core + Drop, D: Disk>(
     disk: &mut D,
     title: &[u8],
     node: N,
-) -> Result<(Stand<N>, u64), OpenError>
+) -> Result<(Stand<N>, u64), Failed<OpenError>>
     ensures quiet { Quiet D.seen D.may_leave D.moment D.left_since disk.old disk.new }
     ensures ok { D.tells ≡ true → IfOk result (λ r. IsOpened N.machine (D.seen disk.old) title.now node r.1 r.0) }
     ensures within { IfOk result (λ r. r.1 < 2 ^ 63) }
     ensures durable { D.tells ≡ true → OnOk result (Only (D.seen disk.new) (D.may_leave disk.new)) }
     ensures err { D.tells ≡ true → IfErr result (OpensNot (D.seen disk.old) title.now) }
-    ensures sound { D.sound disk.old → IfErr result (λ e. e ≢ OpenError.DiskFault) × D.sound disk.new }
-    ensures cause { IfErr result (λ e. e ≡ OpenError.DiskFault → Rose (D.faults disk.old) (D.faults disk.new)) }
+    ensures sound { D.sound disk.old → IfErr result (λ e. e ≢ Failed.Because OpenError.DiskFault) × D.sound disk.new }
+    ensures cause { IfErr result (λ e. e ≡ Failed.Because OpenError.DiskFault → Rose (D.faults disk.old) (D.faults disk.new)) }
     ensures never_falls { D.faults disk.old ≤ D.faults disk.new }
 {
     match contents_from(alloc, disk, 0) {
@@ -332,7 +347,7 @@ pub(crate) fn resume<N: Core + Drop, D: Disk>(
     disk: &mut D,
     commit: u64,
     stand: Stand<N>,
-) -> Result<(Stand<N>, u64), OpenError>
+) -> Result<(Stand<N>, u64), Failed<OpenError>>
     ensures quiet { Quiet D.seen D.may_leave D.moment D.left_since disk.old disk.new }
     ensures ok { (title : List ℕ) (opening : N) → D.tells ≡ true
         → WalkedBy N.machine (D.seen disk.old) title opening commit stand
@@ -342,8 +357,8 @@ pub(crate) fn resume<N: Core + Drop, D: Disk>(
     ensures err { (title : List ℕ) (opening : N) → D.tells ≡ true
         → WalkedBy N.machine (D.seen disk.old) title opening commit stand
         → IfErr result (OpensNot (D.seen disk.old) title) }
-    ensures sound { D.sound disk.old → IfErr result (λ e. e ≢ OpenError.DiskFault) × D.sound disk.new }
-    ensures cause { IfErr result (λ e. e ≡ OpenError.DiskFault → Rose (D.faults disk.old) (D.faults disk.new)) }
+    ensures sound { D.sound disk.old → IfErr result (λ e. e ≢ Failed.Because OpenError.DiskFault) × D.sound disk.new }
+    ensures cause { IfErr result (λ e. e ≡ Failed.Because OpenError.DiskFault → Rose (D.faults disk.old) (D.faults disk.new)) }
     ensures never_falls { D.faults disk.old ≤ D.faults disk.new }
 {
     match contents_from(alloc, disk, commit) {
@@ -358,12 +373,12 @@ pub fn read_inputs<D: Disk>(
     alloc: Global,
     disk: &mut D,
     title: &[u8],
-) -> Result<Vec<Arrived>, OpenError>
+) -> Result<Vec<Arrived>, Failed<OpenError>>
     ensures ok { D.tells ≡ true → IfOk result (λ inputs. HoldsJournal (D.seen disk.old) title.now inputs.items) }
     ensures quiet { Quiet D.seen D.may_leave D.moment D.left_since disk.old disk.new }
     ensures err { D.tells ≡ true → IfErr result (OpensNot (D.seen disk.old) title.now) }
-    ensures sound { D.sound disk.old → (result ≢ Err OpenError.DiskFault) × D.sound disk.new }
-    ensures cause { result ≡ Err OpenError.DiskFault → Rose (D.faults disk.old) (D.faults disk.new) }
+    ensures sound { D.sound disk.old → (result ≢ Err (Failed.Because OpenError.DiskFault)) × D.sound disk.new }
+    ensures cause { result ≡ Err (Failed.Because OpenError.DiskFault) → Rose (D.faults disk.old) (D.faults disk.new) }
     ensures never_falls { D.faults disk.old ≤ D.faults disk.new }
 {
     let content = contents_from(alloc, disk, 0)?;

@@ -1,8 +1,8 @@
 ghost use Rattle.std.specs.Prelude.{⊤};
 
 use crate::part::{Part, read_parts, write_parts};
-use curp_base::NoMemory;
-use curp_items::{Item, ReadError, Reader, Writer};
+use curp_base::{Failed, NoMemory};
+use curp_items::{Fault, Item, Reader, Writer};
 use curp_msg::{AppendAnswer, FenceReply, GcAnswer, Reason, Refusal};
 use std::alloc::Global;
 
@@ -36,7 +36,7 @@ impl Part for Refusal {
     }
 
     #[tactic(auto, unfolding(crate::specs::Fields::refusal_format))]
-    fn read(_alloc: Global, reader: &mut Reader) -> Result<Refusal, ReadError> {
+    fn read(_alloc: Global, reader: &mut Reader) -> Result<Refusal, Failed<Fault>> {
         let place = reader.place();
         match reader.byte()? {
             1 => Ok(Refusal::Version {
@@ -52,7 +52,7 @@ impl Part for Refusal {
             5 => Ok(Refusal::InProgress),
             6 => Ok(Refusal::Expired),
             7 => Ok(Refusal::Switching),
-            _ => Err(ReadError::Fault { place }),
+            _ => Err(Failed::Because(Fault { place })),
         }
     }
 }
@@ -85,7 +85,7 @@ impl Part for Reason {
     }
 
     #[tactic(auto, unfolding(crate::specs::Fields::reason_format))]
-    fn read(_alloc: Global, reader: &mut Reader) -> Result<Reason, ReadError> {
+    fn read(_alloc: Global, reader: &mut Reader) -> Result<Reason, Failed<Fault>> {
         let place = reader.place();
         match reader.byte()? {
             1 => Ok(Reason::Conflict {
@@ -99,7 +99,7 @@ impl Part for Reason {
                 epoch: Item::read(reader)?,
             }),
             5 => Ok(Reason::Idle),
-            _ => Err(ReadError::Fault { place }),
+            _ => Err(Failed::Because(Fault { place })),
         }
     }
 }
@@ -131,7 +131,7 @@ impl Part for AppendAnswer {
     }
 
     #[tactic(auto, unfolding(crate::specs::Fields::append_answer))]
-    fn read(_alloc: Global, reader: &mut Reader) -> Result<AppendAnswer, ReadError> {
+    fn read(_alloc: Global, reader: &mut Reader) -> Result<AppendAnswer, Failed<Fault>> {
         let place = reader.place();
         match reader.byte()? {
             0 => Ok(AppendAnswer::Stored {
@@ -144,7 +144,7 @@ impl Part for AppendAnswer {
                 length: Item::read(reader)?,
             }),
             3 => Ok(AppendAnswer::NotInstalled),
-            _ => Err(ReadError::Fault { place }),
+            _ => Err(Failed::Because(Fault { place })),
         }
     }
 }
@@ -172,14 +172,14 @@ impl Part for GcAnswer {
     }
 
     #[tactic(auto, unfolding(crate::specs::Fields::collection_answer, crate::specs::Fields::requests))]
-    fn read(alloc: Global, reader: &mut Reader) -> Result<GcAnswer, ReadError> {
+    fn read(alloc: Global, reader: &mut Reader) -> Result<GcAnswer, Failed<Fault>> {
         let place = reader.place();
         match reader.byte()? {
             0 => Ok(GcAnswer::Suspects(read_parts(alloc, reader)?)),
             1 => Ok(GcAnswer::Stranger {
                 epoch: Item::read(reader)?,
             }),
-            _ => Err(ReadError::Fault { place }),
+            _ => Err(Failed::Because(Fault { place })),
         }
     }
 }
@@ -207,14 +207,14 @@ impl Part for FenceReply {
     }
 
     #[tactic(auto, unfolding(crate::specs::Fields::fence_reply, crate::specs::Fields::entries))]
-    fn read(alloc: Global, reader: &mut Reader) -> Result<FenceReply, ReadError> {
+    fn read(alloc: Global, reader: &mut Reader) -> Result<FenceReply, Failed<Fault>> {
         let place = reader.place();
         match reader.byte()? {
             0 => Ok(FenceReply::Log(read_parts(alloc, reader)?)),
             1 => Ok(FenceReply::Fenced {
                 epoch: Item::read(reader)?,
             }),
-            _ => Err(ReadError::Fault { place }),
+            _ => Err(Failed::Because(Fault { place })),
         }
     }
 }

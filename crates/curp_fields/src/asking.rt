@@ -2,8 +2,8 @@
 ghost use Rattle.std.specs.Prelude.{⊤};
 
 use crate::part::Part;
-use curp_base::NoMemory;
-use curp_items::{Item, ReadError, Reader, Writer};
+use curp_base::{Failed, NoMemory};
+use curp_items::{Fault, Item, Reader, Writer};
 use curp_msg::{Accepted, Ask, Probe, Probed, Quick, Record, Refuse, Rejected, Reply, Worth};
 use std::alloc::Global;
 
@@ -22,7 +22,7 @@ impl Part for Ask {
     }
 
     #[tactic(auto, unfolding(crate::specs::Fields::ask_fields))]
-    fn read(alloc: Global, reader: &mut Reader) -> Result<Ask, ReadError> {
+    fn read(alloc: Global, reader: &mut Reader) -> Result<Ask, Failed<Fault>> {
         Ok(Ask {
             request: Part::read(alloc, reader)?,
             epoch: Item::read(reader)?,
@@ -45,7 +45,7 @@ impl Part for Record {
     }
 
     #[tactic(auto, unfolding(crate::specs::Fields::record_fields))]
-    fn read(alloc: Global, reader: &mut Reader) -> Result<Record, ReadError> {
+    fn read(alloc: Global, reader: &mut Reader) -> Result<Record, Failed<Fault>> {
         Ok(Record {
             request: Part::read(alloc, reader)?,
             epoch: Item::read(reader)?,
@@ -70,7 +70,7 @@ impl Part for Reply {
     }
 
     #[tactic(auto, unfolding(crate::specs::Fields::reply_fields))]
-    fn read(_alloc: Global, reader: &mut Reader) -> Result<Reply, ReadError> {
+    fn read(_alloc: Global, reader: &mut Reader) -> Result<Reply, Failed<Fault>> {
         Ok(Reply {
             id: Item::read(reader)?,
             synced: Item::read(reader)?,
@@ -97,7 +97,7 @@ impl Part for Worth {
     }
 
     #[tactic(auto, unfolding(crate::specs::Fields::worth_fields))]
-    fn read(_alloc: Global, reader: &mut Reader) -> Result<Worth, ReadError> {
+    fn read(_alloc: Global, reader: &mut Reader) -> Result<Worth, Failed<Fault>> {
         Ok(Worth {
             id: Item::read(reader)?,
             epoch: Item::read(reader)?,
@@ -121,7 +121,7 @@ impl Part for Refuse {
     }
 
     #[tactic(auto, unfolding(crate::specs::Fields::refuse_fields))]
-    fn read(alloc: Global, reader: &mut Reader) -> Result<Refuse, ReadError> {
+    fn read(alloc: Global, reader: &mut Reader) -> Result<Refuse, Failed<Fault>> {
         Ok(Refuse {
             id: Item::read(reader)?,
             refusal: Part::read(alloc, reader)?,
@@ -143,7 +143,7 @@ impl Part for Accepted {
     }
 
     #[tactic(auto, unfolding(crate::specs::Fields::accepted_fields))]
-    fn read(_alloc: Global, reader: &mut Reader) -> Result<Accepted, ReadError> {
+    fn read(_alloc: Global, reader: &mut Reader) -> Result<Accepted, Failed<Fault>> {
         Ok(Accepted {
             id: Item::read(reader)?,
             epoch: Item::read(reader)?,
@@ -165,7 +165,7 @@ impl Part for Rejected {
     }
 
     #[tactic(auto, unfolding(crate::specs::Fields::rejected_fields))]
-    fn read(alloc: Global, reader: &mut Reader) -> Result<Rejected, ReadError> {
+    fn read(alloc: Global, reader: &mut Reader) -> Result<Rejected, Failed<Fault>> {
         Ok(Rejected {
             id: Item::read(reader)?,
             reason: Part::read(alloc, reader)?,
@@ -187,7 +187,7 @@ impl Part for Probe {
     }
 
     #[tactic(auto, unfolding(crate::specs::Fields::probe_fields))]
-    fn read(_alloc: Global, reader: &mut Reader) -> Result<Probe, ReadError> {
+    fn read(_alloc: Global, reader: &mut Reader) -> Result<Probe, Failed<Fault>> {
         Ok(Probe {
             id: Item::read(reader)?,
             epoch: Item::read(reader)?,
@@ -210,7 +210,7 @@ impl Part for Probed {
     }
 
     #[tactic(auto, unfolding(crate::specs::Fields::probed_fields))]
-    fn read(_alloc: Global, reader: &mut Reader) -> Result<Probed, ReadError> {
+    fn read(_alloc: Global, reader: &mut Reader) -> Result<Probed, Failed<Fault>> {
         Ok(Probed {
             id: Item::read(reader)?,
             epoch: Item::read(reader)?,
@@ -236,7 +236,7 @@ impl Part for Quick {
     }
 
     #[tactic(auto, unfolding(crate::specs::Fields::quick_fields))]
-    fn read(_alloc: Global, reader: &mut Reader) -> Result<Quick, ReadError> {
+    fn read(_alloc: Global, reader: &mut Reader) -> Result<Quick, Failed<Fault>> {
         Ok(Quick {
             id: Item::read(reader)?,
             epoch: Item::read(reader)?,

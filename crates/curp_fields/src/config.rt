@@ -5,8 +5,8 @@ ghost use Rattle.curp_range.specs.Spans.{SpansAscend};
 ghost use Rattle.curp_fields.specs.Fields.{IsLeast, span_from, spans};
 
 use crate::part::{Part, read_parts, write_parts};
-use curp_base::NoMemory;
-use curp_items::{Fault, Item, ReadError, Reader, Writer, read_list, write_list};
+use curp_base::{Failed, NoMemory};
+use curp_items::{Fault, Item, Reader, Writer, read_list, write_list};
 use curp_msg::{Config, PartConfig};
 use curp_range::{Ranges, Spans};
 use std::alloc::Global;
@@ -26,7 +26,7 @@ impl Part for Config {
     }
 
     #[tactic(auto, unfolding(crate::specs::Fields::config_fields))]
-    fn read(alloc: Global, reader: &mut Reader) -> Result<Config, ReadError> {
+    fn read(alloc: Global, reader: &mut Reader) -> Result<Config, Failed<Fault>> {
         Ok(Config {
             serial: Item::read(reader)?,
             parts: read_parts(alloc, reader)?,
@@ -54,7 +54,7 @@ impl Part for PartConfig {
     }
 
     #[tactic(auto, unfolding(crate::specs::Fields::part_fields, crate::specs::Fields::nodes))]
-    fn read(alloc: Global, reader: &mut Reader) -> Result<PartConfig, ReadError> {
+    fn read(alloc: Global, reader: &mut Reader) -> Result<PartConfig, Failed<Fault>> {
         Ok(PartConfig {
             part: Item::read(reader)?,
             epoch: Item::read(reader)?,
@@ -80,7 +80,7 @@ impl Part for Spans {
     }
 
     #[tactic(auto, unfolding(crate::specs::Fields::spans))]
-    fn read(alloc: Global, reader: &mut Reader) -> Result<Spans, ReadError> {
+    fn read(alloc: Global, reader: &mut Reader) -> Result<Spans, Failed<Fault>> {
         let count = u32::read(reader)?;
         let mut ranges = no_ranges(alloc)?;
         let mut least = Some(0);

@@ -2,8 +2,8 @@
 ghost use Rattle.std.specs.Prelude.{⊤};
 
 use crate::part::{Part, read_parts, write_parts};
-use curp_base::NoMemory;
-use curp_items::{Item, ReadError, Reader, Writer, read_list, write_list};
+use curp_base::{Failed, NoMemory};
+use curp_items::{Fault, Item, Reader, Writer, read_list, write_list};
 use curp_msg::{Append, Appended, Collected, FenceAnswer, Gc};
 use std::alloc::Global;
 
@@ -24,7 +24,7 @@ impl Part for Append {
     }
 
     #[tactic(auto, unfolding(crate::specs::Fields::append_fields, crate::specs::Fields::entries))]
-    fn read(alloc: Global, reader: &mut Reader) -> Result<Append, ReadError> {
+    fn read(alloc: Global, reader: &mut Reader) -> Result<Append, Failed<Fault>> {
         Ok(Append {
             epoch: Item::read(reader)?,
             base: Item::read(reader)?,
@@ -49,7 +49,7 @@ impl Part for Appended {
     }
 
     #[tactic(auto, unfolding(crate::specs::Fields::appended_fields))]
-    fn read(alloc: Global, reader: &mut Reader) -> Result<Appended, ReadError> {
+    fn read(alloc: Global, reader: &mut Reader) -> Result<Appended, Failed<Fault>> {
         Ok(Appended {
             epoch: Item::read(reader)?,
             round: Item::read(reader)?,
@@ -73,7 +73,7 @@ impl Part for Gc {
     }
 
     #[tactic(auto, unfolding(crate::specs::Fields::gc_fields, crate::specs::Fields::ids))]
-    fn read(alloc: Global, reader: &mut Reader) -> Result<Gc, ReadError> {
+    fn read(alloc: Global, reader: &mut Reader) -> Result<Gc, Failed<Fault>> {
         Ok(Gc {
             epoch: Item::read(reader)?,
             ids: read_list(alloc, reader)?,
@@ -96,7 +96,7 @@ impl Part for Collected {
     }
 
     #[tactic(auto, unfolding(crate::specs::Fields::collected_fields))]
-    fn read(alloc: Global, reader: &mut Reader) -> Result<Collected, ReadError> {
+    fn read(alloc: Global, reader: &mut Reader) -> Result<Collected, Failed<Fault>> {
         Ok(Collected {
             epoch: Item::read(reader)?,
             answer: Part::read(alloc, reader)?,
@@ -119,7 +119,7 @@ impl Part for FenceAnswer {
     }
 
     #[tactic(auto, unfolding(crate::specs::Fields::fence_answer_fields))]
-    fn read(alloc: Global, reader: &mut Reader) -> Result<FenceAnswer, ReadError> {
+    fn read(alloc: Global, reader: &mut Reader) -> Result<FenceAnswer, Failed<Fault>> {
         Ok(FenceAnswer {
             epoch: Item::read(reader)?,
             answer: Part::read(alloc, reader)?,

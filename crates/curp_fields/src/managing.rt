@@ -2,9 +2,9 @@
 ghost use Rattle.std.specs.Prelude.{⊤};
 
 use crate::part::Part;
-use curp_base::{NoMemory, Shared};
+use curp_base::{Failed, NoMemory, Shared};
 use curp_items::{
-    Bounds, Item, ReadError, Reader, Writer, read_list, read_package, write_list, write_package,
+    Bounds, Fault, Item, Reader, Writer, read_list, read_package, write_list, write_package,
 };
 use curp_msg::{Adopted, Parcel, Prepare, Recover, Recovered, Start, TakeOut};
 use std::alloc::Global;
@@ -23,7 +23,7 @@ impl Part for Start {
     }
 
     #[tactic(auto, unfolding(crate::specs::Fields::start_fields))]
-    fn read(_alloc: Global, reader: &mut Reader) -> Result<Start, ReadError> {
+    fn read(_alloc: Global, reader: &mut Reader) -> Result<Start, Failed<Fault>> {
         Ok(Start {
             part: Item::read(reader)?,
             epoch: Item::read(reader)?,
@@ -45,7 +45,7 @@ impl Part for Recovered {
     }
 
     #[tactic(auto, unfolding(crate::specs::Fields::recovered_fields))]
-    fn read(_alloc: Global, reader: &mut Reader) -> Result<Recovered, ReadError> {
+    fn read(_alloc: Global, reader: &mut Reader) -> Result<Recovered, Failed<Fault>> {
         Ok(Recovered {
             part: Item::read(reader)?,
             epoch: Item::read(reader)?,
@@ -68,7 +68,7 @@ impl Part for Adopted {
     }
 
     #[tactic(auto, unfolding(crate::specs::Fields::adopted_fields))]
-    fn read(_alloc: Global, reader: &mut Reader) -> Result<Adopted, ReadError> {
+    fn read(_alloc: Global, reader: &mut Reader) -> Result<Adopted, Failed<Fault>> {
         Ok(Adopted {
             part: Item::read(reader)?,
             epoch: Item::read(reader)?,
@@ -102,7 +102,7 @@ impl Part for Recover {
     }
 
     #[tactic(auto, unfolding(crate::specs::Fields::recover_fields, crate::specs::Fields::nodes))]
-    fn read(alloc: Global, reader: &mut Reader) -> Result<Recover, ReadError> {
+    fn read(alloc: Global, reader: &mut Reader) -> Result<Recover, Failed<Fault>> {
         let part = u32::read(reader)?;
         let epoch = u32::read(reader)?;
         let version = u32::read(reader)?;
@@ -141,7 +141,7 @@ impl Part for Prepare {
     }
 
     #[tactic(auto, unfolding(crate::specs::Fields::prepare_fields, crate::specs::Fields::nodes))]
-    fn read(alloc: Global, reader: &mut Reader) -> Result<Prepare, ReadError> {
+    fn read(alloc: Global, reader: &mut Reader) -> Result<Prepare, Failed<Fault>> {
         Ok(Prepare {
             version: Item::read(reader)?,
             backups: read_list(alloc, reader)?,
@@ -168,7 +168,7 @@ impl Part for TakeOut {
     }
 
     #[tactic(auto, unfolding(crate::specs::Fields::take_out_fields))]
-    fn read(_alloc: Global, reader: &mut Reader) -> Result<TakeOut, ReadError> {
+    fn read(_alloc: Global, reader: &mut Reader) -> Result<TakeOut, Failed<Fault>> {
         let migration = u32::read(reader)?;
         let bounds = Bounds::read(reader)?;
         Ok(TakeOut {
@@ -194,7 +194,7 @@ impl Part for Parcel {
     }
 
     #[tactic(auto, unfolding(crate::specs::Fields::parcel_fields))]
-    fn read(alloc: Global, reader: &mut Reader) -> Result<Parcel, ReadError> {
+    fn read(alloc: Global, reader: &mut Reader) -> Result<Parcel, Failed<Fault>> {
         Ok(Parcel {
             migration: Item::read(reader)?,
             package: Shared::new(alloc, read_package(alloc, reader)?)?,

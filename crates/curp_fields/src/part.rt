@@ -5,9 +5,9 @@ ghost use Rattle.curp_items.specs.Calls.{ReadsIfMemory, WritesItem};
 ghost use Rattle.curp_items.specs.Format.{list_of};
 ghost use Rattle.curp_items.specs.Items.{u32};
 
-use curp_base::{Boxed, Items, NoMemory, Shared};
+use curp_base::{Boxed, Failed, Items, NoMemory, Shared};
 use curp_cmd::{Entry, Request};
-use curp_items::{Item, ReadError, Reader, Writer, read_entry_at, write_entry};
+use curp_items::{Fault, Item, Reader, Writer, read_entry_at, write_entry};
 use std::alloc::Global;
 
 /// A part of a message that has a binary format. Reading it may take memory.
@@ -27,7 +27,7 @@ pub trait Part: Sized {
         ensures fits { OnOk result (format.Fits self.now) };
 
     /// Reads a part from the prefix.
-    fn read(alloc: Global, reader: &mut Reader) -> Result<Self, ReadError>
+    fn read(alloc: Global, reader: &mut Reader) -> Result<Self, Failed<Fault>>
         ensures { ReadsIfMemory result reader.new (format.read reader.old) };
 }
 
@@ -40,7 +40,7 @@ impl<T: Part + Drop> Part for Boxed<T> {
         self.get().write(out)
     }
 
-    fn read(alloc: Global, reader: &mut Reader) -> Result<Boxed<T>, ReadError> {
+    fn read(alloc: Global, reader: &mut Reader) -> Result<Boxed<T>, Failed<Fault>> {
         let part = T::read(alloc, reader)?;
         Ok(Boxed::new(alloc, part)?)
     }
@@ -57,7 +57,7 @@ impl Part for Shared<Request> {
         Item::write(&**self, out)
     }
 
-    fn read(alloc: Global, reader: &mut Reader) -> Result<Shared<Request>, ReadError> {
+    fn read(alloc: Global, reader: &mut Reader) -> Result<Shared<Request>, Failed<Fault>> {
         let request = Request::read(reader)?;
         Ok(Shared::new(alloc, request)?)
     }
@@ -75,7 +75,7 @@ impl Part for Entry {
         write_entry(self, out)
     }
 
-    fn read(alloc: Global, reader: &mut Reader) -> Result<Entry, ReadError> {
+    fn read(alloc: Global, reader: &mut Reader) -> Result<Entry, Failed<Fault>> {
         read_entry_at(alloc, reader)
     }
 }
@@ -95,7 +95,10 @@ pub fn write_parts<T: Part>(parts: &[T], out: &mut Writer) -> Result<(), NoMemor
 }
 
 /// Reads how many parts there are, and they.
-pub fn read_parts<T: Part + Drop>(alloc: Global, reader: &mut Reader) -> Result<Items<T>, ReadError>
+pub fn read_parts<T: Part + Drop>(
+    alloc: Global,
+    reader: &mut Reader,
+) -> Result<Items<T>, Failed<Fault>>
     ensures { ReadsIfMemory result reader.new ((list_of u32 T.format).read reader.old) }
 {
     let count = u32::read(reader)?;

@@ -14,6 +14,7 @@ use Rattle.curp_filter.specs.Saying.{text_of}
 use Rattle.curp_filter.specs.Taking.{AreJudged}
 use Rattle.curp_filter.specs.declared.came.Came.{Came}
 use Rattle.curp_filter.specs.declared.came.Role.{Role}
+use Rattle.curp_base.specs.declared.failed.Failed.{Failed}
 use Rattle.curp_durable.specs.declared.error.DurableError.{DurableError}
 use Rattle.curp_filter.specs.declared.end.FilterEnd.{FilterEnd}
 use Rattle.curp_filter.specs.declared.end.FilterEnd.TheVariants as end
@@ -115,7 +116,7 @@ IsOfWriting end.NoMemory = ⊤
 IsOfWriting _ = ⊥
 
 -- the node's journal doesn't take these, of which there are some
-abbrev pub KeepsNot : {N D : Type 0} → (D → ℕ) → (inputs : List Arrived) → (old new : DurableParts N D) → DurableError → Type 0
+abbrev pub KeepsNot : {N D : Type 0} → (D → ℕ) → (inputs : List Arrived) → (old new : DurableParts N D) → Failed DurableError → Type 0
 KeepsNot faults inputs old new why = (inputs ≢ []) × RefusesBatch faults old new inputs why
 
 -- why the node answered nothing, or what it answered has no text

@@ -1,7 +1,7 @@
 ghost use Rattle.std.specs.Prelude.{◌≡◌};
 ghost use Rattle.curp_filter.specs.declared.end.FilterEnd.TheVariants as end;
 
-use curp_base::NoMemory;
+use curp_base::{Failed, NoMemory};
 use curp_durable::DurableError;
 
 /// Why the process of a node answers no more. A place is that of the first byte of a length, counted from 0.
@@ -18,7 +18,7 @@ pub enum FilterEnd {
     ReadFault,
     WriteFault,
     /// The node's journal doesn't have what came last, or may not.
-    NotKept(DurableError),
+    NotKept(Failed<DurableError>),
     NoMemory,
 }
 
@@ -30,10 +30,10 @@ impl From<NoMemory> for FilterEnd {
     }
 }
 
-impl From<DurableError> for FilterEnd {
+impl From<Failed<DurableError>> for FilterEnd {
     ghost from_gives = { λ why e. e ≡ end.NotKept why };
 
-    fn from(why: DurableError) -> FilterEnd {
+    fn from(why: Failed<DurableError>) -> FilterEnd {
         FilterEnd::NotKept(why)
     }
 }

@@ -2,10 +2,11 @@
 use Rattle.std.proofs.Common.{◌≡◌, ℕ, zero, suc, ◌+◌, ◌-◌, ◌<◌, ◌≤◌, List, [], ◌∷◌, ◌++◌, Option, Some, None, Result, Ok, Err, refl, sym, ap, subst, ◌∙◌, arith}
 use Rattle.std.specs.Prelude.{option_map}
 use Rattle.curp_base.specs.Words.{last_of}
+use Rattle.curp_base.specs.declared.failed.Failed.{Failed}
+use Rattle.curp_base.specs.declared.failed.Failed.TheVariants as failed
 use Rattle.curp_items.specs.Calls.{ReadsNot}
 use Rattle.curp_items.specs.Format.{Format, Input, key_after, listed, read_more, ◌▸◌}
-use Rattle.curp_items.specs.declared.fault.ReadError.{ReadError}
-use Rattle.curp_items.specs.declared.fault.ReadError.TheVariants as error
+use Rattle.curp_items.specs.declared.fault.Fault.{Fault}
 
 module _ {A : Type 0} (next : List A → Format A) (before : List A) (count i : ℕ) (at : Input) (whole : Result (List A × Input) ℕ) (so_far : read_more next before (count - i) at ≡ whole) where
   pub more_read : (x : A) (after : Input) → i < count → (next before).read at ≡ Ok (x, after) → read_more next (before ++ x ∷ []) (count - (i + 1)) after ≡ whole
@@ -20,9 +21,9 @@ module _ {A : Type 0} (next : List A → Format A) (before : List A) (count i : 
       let one : read_more next before (count - i) at ≡ Err place = rw (k, e) refl in
       sym so_far ∙ one
 
-  pub more_fails : (why : ReadError) → i < count → ReadsNot why ((next before).read at) → ReadsNot why whole
-  more_fails error.NoMemory l e = tt
-  more_fails (error.Fault place) l e = more_faults place l e
+  pub more_fails : (why : Failed Fault) → i < count → ReadsNot why ((next before).read at) → ReadsNot why whole
+  more_fails failed.NoMemory l e = tt
+  more_fails (failed.Because fault) l e = more_faults fault.place l e
 
   pub more_done : count ≤ i → whole ≡ Ok (before, at)
   more_done l =

@@ -3,17 +3,17 @@ use Rattle.std.proofs.Common.{◌≡◌, ℕ, ◌+◌, ◌<◌, ◌≤◌, List,
 use Rattle.std.proofs.lemmas.List.{length-append, length-take-le, take_at, take-append-drop}
 use Rattle.std.proofs.lemmas.List.Elements.{All-from_get_or}
 use Rattle.curp_base.specs.Words.{AreBytes}
+use Rattle.curp_base.specs.declared.failed.Failed.{Failed}
+use Rattle.curp_base.specs.declared.failed.Failed.TheVariants as failed
 use Rattle.curp_cmd.specs.declared.command.Request.{Request}
 use Rattle.curp_cmd.specs.declared.entry.Entry.{Entry}
 use Rattle.curp_cmd.specs.declared.entry.Entry.TheVariants.{Op, Take, Give, Expire}
 use Rattle.curp_items.specs.Format.{Input}
 use Rattle.curp_items.specs.Items.{entry}
 use Rattle.curp_items.specs.Calls.{ReadsNot}
-use Rattle.curp_items.specs.Encoding.{BeginsWithEntry, IsEntry, entry_error, request_in, request_of, encoding, start_of}
+use Rattle.curp_items.specs.Encoding.{BeginsWithEntry, IsEntry, request_in, request_of, encoding, start_of}
 use Rattle.std.specs.Prelude.{IfSome}
-use Rattle.curp_items.specs.declared.fault.ReadError.{ReadError}
-use Rattle.curp_items.specs.declared.fault.ReadError.TheVariants as error
-use Rattle.curp_items.specs.declared.packed.EntryError.TheVariants as why
+use Rattle.curp_items.specs.declared.fault.Fault.{Fault}
 use Rattle.curp_items.proofs.Combining.{IsByte, done, input, ok_is}
 use Rattle.curp_items.proofs.Formats.{entry_is}
 
@@ -70,11 +70,11 @@ found_of None P h = tt
 found_of (Some r) P h = h r refl
 
 -- bytes that begin with an encoding are read, unless memory runs out
-pub not_read : (bytes : List ℕ) (e : Entry) (len : ℕ) → BeginsWithEntry bytes e len → (w : ReadError) → ReadsNot w (entry.read (start_of bytes)) → entry_error w ≡ why.NoMemory
-not_read bytes e len b error.NoMemory n = refl
-not_read bytes e len b (error.Fault place) n =
+pub not_read : (bytes : List ℕ) (e : Entry) (len : ℕ) → BeginsWithEntry bytes e len → (why : Failed Fault) → ReadsNot why (entry.read (start_of bytes)) → why ≡ failed.NoMemory
+not_read bytes e len b failed.NoMemory n = refl
+not_read bytes e len b (failed.Because fault) n =
     let x : Entry × Input = (e, input len (drop len bytes)) in
-    let both : done x ≡ Err place = sym (read_from bytes e len b) ∙ n in
+    let both : done x ≡ Err fault.place = sym (read_from bytes e len b) ∙ n in
     absurd cc
 
 pub read_same : (bytes : List ℕ) (e : Entry) (len : ℕ) (f : Entry) (after : Input) → BeginsWithEntry bytes e len → entry.read (start_of bytes) ≡ Ok (f, after) → (f ≡ e) × (after.place ≡ len)

@@ -2,10 +2,10 @@
 use Rattle.std.specs.Prelude.{◌≡◌, ◌≢◌, ℕ, List, [], ◌++◌, Result, Ok, Err, ⊤}
 use Rattle.std.specs.declared.alloc.AllocError.{AllocError}
 use Rattle.std.specs.Borrow.{Bor}
+use Rattle.curp_base.specs.declared.failed.Failed.{Failed}
+use Rattle.curp_base.specs.declared.failed.Failed.TheVariants as failed
 use Rattle.curp_items.specs.Format.{Input}
 use Rattle.curp_items.specs.declared.fault.Fault.{Fault}
-use Rattle.curp_items.specs.declared.fault.ReadError.{ReadError}
-use Rattle.curp_items.specs.declared.fault.ReadError.TheVariants as error
 
 -- The call gave what reading gives: the value, and where reading stands behind it, or the place of the first fault
 abbrev pub ReadsItem : {A : Type 0} → Result A Fault → Input → Result (A × Input) ℕ → Type 0
@@ -18,11 +18,11 @@ ReadsText (Ok text) after read = read ≡ Ok (text.now, after)
 ReadsText (Err fault) after read = read ≡ Err fault.place
 
 -- the same, unless memory ran out
-abbrev pub ReadsNot : {A : Type 0} → ReadError → Result (A × Input) ℕ → Type 0
-ReadsNot error.NoMemory read = ⊤
-ReadsNot (error.Fault place) read = read ≡ Err place
+abbrev pub ReadsNot : {A : Type 0} → Failed Fault → Result (A × Input) ℕ → Type 0
+ReadsNot failed.NoMemory read = ⊤
+ReadsNot (failed.Because fault) read = read ≡ Err fault.place
 
-abbrev pub ReadsIfMemory : {A : Type 0} → Result A ReadError → Input → Result (A × Input) ℕ → Type 0
+abbrev pub ReadsIfMemory : {A : Type 0} → Result A (Failed Fault) → Input → Result (A × Input) ℕ → Type 0
 ReadsIfMemory (Ok x) after read = read ≡ Ok (x, after)
 ReadsIfMemory (Err why) after read = ReadsNot why read
 

@@ -9,10 +9,6 @@ use Rattle.curp_cmd.specs.declared.migration.Package.{Package}
 use Rattle.curp_cmd.specs.declared.migration.TablePart.{TablePart}
 use Rattle.curp_items.specs.Format.{Input}
 use Rattle.curp_items.specs.Items.{entry}
-use Rattle.curp_items.specs.declared.fault.ReadError.{ReadError}
-use Rattle.curp_items.specs.declared.fault.ReadError.TheVariants as error
-use Rattle.curp_items.specs.declared.packed.EntryError.{EntryError}
-use Rattle.curp_items.specs.declared.packed.EntryError.TheVariants as why
 
 -- Each list is short enough for its count, which has 32 bits. Clients ascend in each value of the type, so this is asked only
 -- where they do
@@ -54,11 +50,6 @@ start_of bytes = record { place = 0; rest = bytes }
 -- where an entry is read, the first item that isn't whole or may not stand there is at this place
 abbrev pub FaultsAt : List ℕ → ℕ → Type 0
 FaultsAt bytes place = entry.read (start_of bytes) ≡ Err place
-
--- why an entry isn't read, by why reading it failed
-abbrev pub entry_error : ReadError → EntryError
-entry_error error.NoMemory = why.NoMemory
-entry_error (error.Fault place) = why.BadEntry place
 
 -- the request of an entry that was read, if it has one
 abbrev pub request_of : Entry → Option Request

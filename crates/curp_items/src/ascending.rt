@@ -5,8 +5,8 @@ ghost use Rattle.curp_items.specs.Calls.{ReadsItem, ReadsIfMemory, Skips};
 ghost use Rattle.curp_items.specs.Format.{◌▸◌, key_after, ascending_keys, ascending_pairs};
 ghost use Rattle.curp_items.specs.Items.{u32};
 
-use crate::{Fault, Item, ReadError, Reader};
-use curp_base::{AscendingKeys, AscendingPairs};
+use crate::{Fault, Item, Reader};
+use curp_base::{AscendingKeys, AscendingPairs, Failed};
 use curp_cmd::{Key, RequestId};
 use std::alloc::Global;
 
@@ -93,7 +93,7 @@ fn read_key<K: Ascending>(reader: &mut Reader, last: &Option<K>) -> Result<K, Fa
 pub fn read_pairs<K: Ascending, V: Item>(
     alloc: Global,
     reader: &mut Reader,
-) -> Result<AscendingPairs<K, V>, ReadError>
+) -> Result<AscendingPairs<K, V>, Failed<Fault>>
     ensures { ReadsIfMemory result reader.new
         ((ascending_pairs K.cmp u32 K.format K.above V.format).read reader.old) }
 {
@@ -113,7 +113,7 @@ pub fn read_pairs<K: Ascending, V: Item>(
 pub fn read_keys<K: Ascending>(
     alloc: Global,
     reader: &mut Reader,
-) -> Result<AscendingKeys<K>, ReadError>
+) -> Result<AscendingKeys<K>, Failed<Fault>>
     ensures { ReadsIfMemory result reader.new ((ascending_keys K.cmp u32 K.format K.above).read reader.old) }
 {
     let count = u32::read(reader)?;

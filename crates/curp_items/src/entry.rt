@@ -5,8 +5,8 @@ ghost use Rattle.curp_items.specs.Items as format;
 ghost use Rattle.curp_items.specs.Encoding.{HasEncoding};
 
 use crate::package::{read_package, skip_package, write_package};
-use crate::{Fault, Item, ReadError, Reader, Writer};
-use curp_base::{NoMemory, Shared};
+use crate::{Fault, Item, Reader, Writer};
+use curp_base::{Failed, NoMemory, Shared};
 use curp_cmd::{Entry, Pairs, Request, RequestId};
 use std::alloc::Global;
 
@@ -45,7 +45,7 @@ pub fn write_entry(entry: &Entry, out: &mut Writer) -> Result<(), NoMemory>
 
 /// Reads an entry from the prefix.
 #[tactic(auto, unfolding(crate::specs::Items::entry))]
-pub fn read_entry_at(alloc: Global, reader: &mut Reader) -> Result<Entry, ReadError>
+pub fn read_entry_at(alloc: Global, reader: &mut Reader) -> Result<Entry, Failed<Fault>>
     ensures { ReadsIfMemory result reader.new (format.entry.read reader.old) }
 {
     let place = reader.place();
@@ -65,7 +65,7 @@ pub fn read_entry_at(alloc: Global, reader: &mut Reader) -> Result<Entry, ReadEr
         4 => Ok(Entry::Expire {
             client: Item::read(reader)?,
         }),
-        _ => Err(ReadError::Fault { place }),
+        _ => Err(Failed::Because(Fault { place })),
     }
 }
 

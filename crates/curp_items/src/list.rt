@@ -5,8 +5,8 @@ ghost use Rattle.curp_items.specs.Calls.{ReadsIfMemory, WritesItem};
 ghost use Rattle.curp_items.specs.Format.{list_of};
 ghost use Rattle.curp_items.specs.Items.{u32};
 
-use crate::{Item, ReadError, Reader, Writer};
-use curp_base::{Items, NoMemory};
+use crate::{Fault, Item, Reader, Writer};
+use curp_base::{Failed, Items, NoMemory};
 use std::alloc::Global;
 
 /// Writes the encodings of items, one behind the other.
@@ -33,7 +33,7 @@ pub fn write_list<T: Item>(items: &[T], out: &mut Writer) -> Result<(), NoMemory
 }
 
 /// Reads how many items there are, and they.
-pub fn read_list<T: Item>(alloc: Global, reader: &mut Reader) -> Result<Items<T>, ReadError>
+pub fn read_list<T: Item>(alloc: Global, reader: &mut Reader) -> Result<Items<T>, Failed<Fault>>
     ensures { ReadsIfMemory result reader.new ((list_of u32 T.format).read reader.old) }
 {
     let count = u32::read(reader)?;

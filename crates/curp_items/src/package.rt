@@ -5,8 +5,8 @@ ghost use Rattle.curp_items.specs.Encoding.{HasTableEncoding, HasPackageEncoding
 
 use crate::ascending::{read_keys, read_pairs, skip_keys, skip_pairs};
 use crate::list::write_list;
-use crate::{Bounds, Fault, Item, ReadError, Reader, Writer};
-use curp_base::NoMemory;
+use crate::{Bounds, Fault, Item, Reader, Writer};
+use curp_base::{Failed, NoMemory};
 use curp_cmd::{Answer, Key, Package, RequestId, TablePart, Value};
 use std::alloc::Global;
 
@@ -23,7 +23,7 @@ fn write_table(table: &TablePart, out: &mut Writer) -> Result<(), NoMemory>
 }
 
 #[tactic(auto, unfolding(crate::specs::Items::table, crate::specs::Items::records, crate::specs::Items::firsts, crate::specs::Items::gone))]
-fn read_table(alloc: Global, reader: &mut Reader) -> Result<TablePart, ReadError>
+fn read_table(alloc: Global, reader: &mut Reader) -> Result<TablePart, Failed<Fault>>
     ensures { ReadsIfMemory result reader.new (format.table.read reader.old) }
 {
     let records = read_pairs(alloc, reader)?;
@@ -64,7 +64,7 @@ pub fn write_package(moved: &Package, out: &mut Writer) -> Result<(), NoMemory>
 
 /// Reads a package from the prefix.
 #[tactic(auto, unfolding(crate::specs::Items::package_format, crate::specs::Items::pairs))]
-pub fn read_package(alloc: Global, reader: &mut Reader) -> Result<Package, ReadError>
+pub fn read_package(alloc: Global, reader: &mut Reader) -> Result<Package, Failed<Fault>>
     ensures { ReadsIfMemory result reader.new (format.package_format.read reader.old) }
 {
     let bounds = Bounds::read(reader)?;

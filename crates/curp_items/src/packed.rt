@@ -1,41 +1,16 @@
 ghost use Rattle.std.specs.Prelude.{◌≡◌, ◌≢◌, ◌++◌, ℕ, Ok, Err, Some, IfOk, IfSome, OnOk, OnErr};
 ghost use Rattle.curp_cmd.specs.declared.entry.Entry.{Entry};
 ghost use Rattle.curp_cmd.specs.declared.command.Request.{Request};
+ghost use Rattle.curp_items.specs.declared.fault.Fault.{Fault};
 ghost use Rattle.curp_items.specs.Items.{entry};
 ghost use Rattle.curp_items.specs.Encoding.{HasEncoding, IsEntry, encoding, BeginsWithEntry, FaultsAt, request_in};
 
 use crate::entry::{read_entry_at, skip_entry, write_entry};
-use crate::{Item, ReadError, Reader, Writer};
-use curp_base::NoMemory;
+use crate::{Fault, Item, Reader, Writer};
+use curp_base::{Failed, NoMemory};
 use curp_cmd::{Entry, Request};
 use std::alloc::Global;
 use std::mem;
-use thiserror::Error;
-
-/// Why an entry is not read.
-#[derive(Clone, Copy, Debug, PartialEq, Eq, Error)]
-pub enum EntryError {
-    /// The bytes begin with no entry's encoding. The place is that of the first byte of the first item, from the left,
-    /// that isn't whole or may not stand there.
-    #[error("no entry stands there: byte {place} is wrong")]
-    BadEntry { place: u64 },
-    /// There was no memory for the entry.
-    #[error("out of memory")]
-    NoMemory,
-}
-
-impl From<ReadError> for EntryError {
-    ghost use Rattle.curp_items.specs.Encoding.{entry_error};
-
-    ghost from_gives = { λ why e. e ≡ entry_error why };
-
-    fn from(why: ReadError) -> EntryError {
-        match why {
-            ReadError::Fault { place } => EntryError::BadEntry { place },
-            ReadError::NoMemory => EntryError::NoMemory,
-        }
-    }
-}
 
 /// Appends the entry's encoding.
 pub fn pack_entry(entry: &Entry, out: &mut Vec<u8>) -> Result<(), NoMemory>
@@ -52,11 +27,11 @@ pub fn pack_entry(entry: &Entry, out: &mut Vec<u8>) -> Result<(), NoMemory>
 }
 
 /// The entry whose encoding the bytes begin with, and its length.
-pub fn read_entry(alloc: Global, bytes: &[u8]) -> Result<(Entry, usize), EntryError>
+pub fn read_entry(alloc: Global, bytes: &[u8]) -> Result<(Entry, usize), Failed<Fault>>
     ensures found { IfOk result (λ read. BeginsWithEntry bytes.now read.0 read.1) }
     ensures only { (e : Entry) (len : ℕ) → BeginsWithEntry bytes.now e len
-        → result ≢ Err EntryError.NoMemory → result ≡ Ok (e, len) }
-    ensures bad_entry { (place : ℕ) → result ≡ Err (EntryError.BadEntry place) → FaultsAt bytes.now place }
+        → result ≢ Err Failed.NoMemory → result ≡ Ok (e, len) }
+    ensures bad_entry { (fault : Fault) → result ≡ Err (Failed.Because fault) → FaultsAt bytes.now fault.place }
 {
     let mut reader = Reader::new(bytes);
     let entry = read_entry_at(alloc, &mut reader)?;

@@ -11,6 +11,7 @@ ghost use Rattle.curp_durable.specs.declared.stand.Answered.{Answered};
 ghost use Rattle.curp_law_lives.specs.Lives.{Crash, Happens, Opening, down, running};
 ghost use Rattle.curp_law_lives.specs.Lives as lives;
 
+use curp_base::Failed;
 use curp_disk::Disk;
 use curp_durable::{Answered, Durable, DurableError, OpenError, OpenFailed};
 use curp_journal::Arrived;
@@ -32,7 +33,7 @@ pub fn opening_happens<N: Core + Drop, D: Disk>(
     ensures settled { (inputs : List Arrived) → D.tells ≡ true → HoldsJournal (D.seen disk) title.now inputs
         → IfOk result (λ d. IsSettled N.machine D.seen D.may_leave d.disk d.stand d.commit title.now node inputs) }
     ensures err { D.tells ≡ true → IfErr result (λ f. OpensNot (D.seen disk) title.now f.error) }
-    ensures cause { IfErr result (λ f. f.error ≡ OpenError.DiskFault → Rose (D.faults disk) (D.faults f.disk)) }
+    ensures cause { IfErr result (λ f. f.error ≡ Failed.Because OpenError.DiskFault → Rose (D.faults disk) (D.faults f.disk)) }
 {
     Durable::open(alloc, disk, title, node, size_limit)
 }
@@ -42,7 +43,7 @@ pub fn opening_happens<N: Core + Drop, D: Disk>(
 pub fn batch_happens<N: Core + Drop, D: Disk>(
     durable: &mut Durable<N, D>,
     inputs: Vec<Arrived>,
-) -> Result<Vec<Answered>, DurableError>
+) -> Result<Vec<Answered>, Failed<DurableError>>
     ensures happens { (title : List ℕ) (opening : N) (held : List Arrived) (answered : List Answered)
         → D.tells ≡ true
         → IsSettled N.machine D.seen D.may_leave durable.old.disk durable.old.stand durable.old.commit title opening held

@@ -1,5 +1,7 @@
 -- A journal that a crash left.
 use Rattle.std.proofs.Common.{◌≡◌, ◌≢◌, ℕ, List, Option, Some, None, refl, sym, ap, subst, ◌∙◌}
+use Rattle.curp_base.specs.declared.failed.Failed.{Failed}
+use Rattle.curp_base.specs.declared.failed.Failed.TheVariants as failed
 use Rattle.curp_disk.specs.Calls.{seen_of}
 use Rattle.curp_disk.specs.InMemory.{StopParts, crashed}
 use Rattle.curp_durable.specs.Opening.{IsOfTheMoment, LedTo}
@@ -15,11 +17,11 @@ use Rattle.curp_msg.specs.declared.script.Header.{Header}
 use Rattle.curp_config.specs.Machine.{manager_machine}
 
 -- where it is there, and the disk doesn't fail
-pub of_memory : (error : OpenError) → IsOfTheMoment error → error ≢ opened.DiskFault → error ≡ opened.NoMemory
-of_memory opened.NotFormatted now other = absurd now
-of_memory (opened.Damaged place) now other = absurd now
-of_memory opened.DiskFault now other = absurd (other refl)
-of_memory opened.NoMemory now other = refl
+pub of_memory : (error : Failed OpenError) → IsOfTheMoment error → error ≢ failed.Because opened.DiskFault → error ≡ failed.NoMemory
+of_memory (failed.Because opened.NotFormatted) now other = absurd now
+of_memory (failed.Because (opened.Damaged place)) now other = absurd now
+of_memory (failed.Because opened.DiskFault) now other = absurd (other refl)
+of_memory failed.NoMemory now other = refl
 
 -- a crash was to come, so there is where to open it from
 pub standby_there : (d : DurableParts ManagerState StopParts) (crash : Option Crash) (c : Crash) (standby : Option (CheckpointParts ManagerState)) → standby ≡ standby_of d crash → crash ≡ Some c → standby ≡ Some (checkpoint_of d)

@@ -16,7 +16,7 @@ ghost use Rattle.curp_script.specs.Headers.{bad_field};
 ghost use Rattle.curp_script.specs.Manage.{HasCall};
 
 use crate::outcome::LineOutcome;
-use curp_base::{Items, NoMemory};
+use curp_base::{Failed, Items, NoMemory};
 use curp_changes::Shape;
 use curp_cmd::{Keeper, NodeId};
 use curp_disk::StopDisk;
@@ -195,7 +195,7 @@ impl Managing {
                 };
                 managing.tell(done)
             }
-            Err(DurableError::DiskFault) => {
+            Err(Failed::Because(DurableError::DiskFault)) => {
                 let Some(stop) = crash else { unreachable!() };
                 let Some(checkpoint) = standby else {
                     unreachable!()
@@ -205,10 +205,10 @@ impl Managing {
                 let kept = stop.keeps_input();
                 Ok((managing, LineOutcome::Stopped { kept }))
             }
-            Err(DurableError::NoMemory) => Err(AllocError),
-            Err(DurableError::NoEncoding) => unreachable!(),
-            Err(DurableError::Full) => unreachable!(),
-            Err(DurableError::Spent) => unreachable!(),
+            Err(Failed::NoMemory) => Err(AllocError),
+            Err(Failed::Because(DurableError::NoEncoding)) => unreachable!(),
+            Err(Failed::Because(DurableError::Full)) => unreachable!(),
+            Err(Failed::Because(DurableError::Spent)) => unreachable!(),
         }
     }
 
@@ -333,9 +333,9 @@ fn formatted(alloc: Global, header: &Header) -> Result<StopDisk, NoMemory>
     let mut disk = StopDisk::new(alloc);
     match format(alloc, &mut disk, &title) {
         Ok(()) => Ok(disk),
-        Err(FormatError::NoMemory) => Err(AllocError),
-        Err(FormatError::DiskFault) => unreachable!(),
-        Err(FormatError::NotEmpty) => unreachable!(),
+        Err(Failed::NoMemory) => Err(AllocError),
+        Err(Failed::Because(FormatError::DiskFault)) => unreachable!(),
+        Err(Failed::Because(FormatError::NotEmpty)) => unreachable!(),
     }
 }
 
@@ -400,14 +400,12 @@ fn open_again(
 }
 
 /// Of a journal that is there, on a disk that isn't armed, nothing but memory can be wanting.
-fn only_memory(error: OpenError) -> NoMemory
-    requires { error ≡ OpenError.NoMemory }
+fn only_memory(error: Failed<OpenError>) -> NoMemory
+    requires { error ≡ Failed.NoMemory }
 {
     match error {
-        OpenError::NoMemory => AllocError,
-        OpenError::DiskFault => unreachable!(),
-        OpenError::NotFormatted => unreachable!(),
-        OpenError::Damaged { .. } => unreachable!(),
+        Failed::NoMemory => AllocError,
+        Failed::Because(_) => unreachable!(),
     }
 }
 

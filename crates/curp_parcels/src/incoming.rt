@@ -5,23 +5,23 @@ ghost use Rattle.curp_batches.specs.Prefixes.{Begins};
 ghost use Rattle.curp_parcels.specs.Parcels.{IsIn, IsParcel, incoming};
 
 use crate::framing::parcel_of;
-use curp_base::NoMemory;
-use curp_batches::{WriteError, arrival_at, write_arrival};
-use curp_items::{ReadError, Writer};
+use curp_base::{Failed, NoMemory};
+use curp_batches::{NoEncoding, arrival_at, write_arrival};
+use curp_items::{Fault, Writer};
 use curp_journal::Arrived;
 use std::alloc::{AllocError, Global};
 
 /// The parcel of what comes to a node.
-pub fn encode_arrival(alloc: Global, arrived: &Arrived) -> Result<Vec<u8>, WriteError>
+pub fn encode_arrival(alloc: Global, arrived: &Arrived) -> Result<Vec<u8>, Failed<NoEncoding>>
     ensures parcel { IfOk result (λ bytes. IsParcel incoming arrived.now bytes.items) }
-    ensures none { result ≡ Err WriteError.NoEncoding → (bytes : List ℕ) → IsParcel incoming arrived.now bytes → ⊥ }
+    ensures none { result ≡ Err (Failed.Because (record {})) → (bytes : List ℕ) → IsParcel incoming arrived.now bytes → ⊥ }
 {
     // The length is put there once it is known.
     let mut out = Writer::new(vec![in alloc; 0; 4]?);
     write_arrival(alloc, arrived, &mut out)?;
     match parcel_of(out.into_vec()) {
         Some(parcel) => Ok(parcel),
-        None => Err(WriteError::NoEncoding),
+        None => Err(Failed::Because(NoEncoding)),
     }
 }
 
@@ -48,11 +48,11 @@ fn whole_arrival(content: &[u8], arrived: Arrived, length: usize) -> Option<Arri
 }
 
 /// The bytes are no arrival, or there is no memory for it.
-fn no_arrival(why: ReadError) -> Result<Option<Arrived>, NoMemory>
-    ensures { IfOk result (λ read. (read ≡ None) × (why ≢ ReadError.NoMemory)) }
+fn no_arrival(why: Failed<Fault>) -> Result<Option<Arrived>, NoMemory>
+    ensures { IfOk result (λ read. (read ≡ None) × (why ≢ Failed.NoMemory)) }
 {
     match why {
-        ReadError::NoMemory => Err(AllocError),
-        ReadError::Fault { .. } => Ok(None),
+        Failed::NoMemory => Err(AllocError),
+        Failed::Because(_) => Ok(None),
     }
 }

@@ -11,34 +11,34 @@ ghost use Rattle.curp_wire.specs.Frame.{has_frame};
 
 use crate::framing::parcel_of;
 use crate::outgoing::{Outgoing, is_capture};
-use curp_base::NoMemory;
-use curp_batches::{WriteError, frame_at};
+use curp_base::{Failed, NoMemory};
+use curp_batches::{NoEncoding, encoding_error, frame_at};
 use curp_cmd::NodeId;
-use curp_items::{Fault, Item, ReadError, Reader, Writer};
+use curp_items::{Fault, Item, Reader, Writer};
 use curp_msg::{Capture, Completed, Message};
 use curp_wire::encode;
 use std::alloc::{AllocError, Global};
 
 /// The parcel of what the process of a node says.
-pub fn encode_outgoing(alloc: Global, said: &Outgoing) -> Result<Vec<u8>, WriteError>
+pub fn encode_outgoing(alloc: Global, said: &Outgoing) -> Result<Vec<u8>, Failed<NoEncoding>>
     ensures parcel { IfOk result (λ bytes. IsParcel outgoing said.now bytes.items) }
     // `laws::what_is_said_has_an_encoding`: then there is none.
-    ensures none { result ≡ Err WriteError.NoEncoding → has_encoding said.now ≡ false }
+    ensures none { result ≡ Err (Failed.Because (record {})) → has_encoding said.now ≡ false }
 {
     // The length is put there once it is known.
     let mut out = Writer::new(vec![in alloc; 0; 4]?);
     write(alloc, said, &mut out)?;
     match parcel_of(out.into_vec()) {
         Some(parcel) => Ok(parcel),
-        None => Err(WriteError::NoEncoding),
+        None => Err(Failed::Because(NoEncoding)),
     }
 }
 
 #[tactic(auto, unfolding(crate::specs::Outgoing::outgoing, crate::specs::Outgoing::name))]
-fn write(alloc: Global, said: &Outgoing, out: &mut Writer) -> Result<(), WriteError>
+fn write(alloc: Global, said: &Outgoing, out: &mut Writer) -> Result<(), Failed<NoEncoding>>
     ensures writes { OnOk result (out.new ≡ record { prefix = out.old.prefix; text = out.old.text ++ outgoing.of said.now }) }
     ensures fits { OnOk result (outgoing.Fits said.now) }
-    ensures none { result ≡ Err WriteError.NoEncoding → has_encoding said.now ≡ false }
+    ensures none { result ≡ Err (Failed.Because (record {})) → has_encoding said.now ≡ false }
 {
     match said {
         Outgoing::Stands { items, last } => {
@@ -85,25 +85,29 @@ fn write_sent(
     name: (u64, (u64, u64)),
     message: &Message,
     out: &mut Writer,
-) -> Result<(), WriteError>
+) -> Result<(), Failed<NoEncoding>>
     ensures writes { OnOk result (out.new ≡ record { prefix = out.old.prefix; text = out.old.text ++ sent.of (name, message.now) }) }
     ensures fits { OnOk result (sent.Fits (name, message.now)) }
-    ensures none { result ≡ Err WriteError.NoEncoding → has_frame message.now ≡ false }
+    ensures none { result ≡ Err (Failed.Because (record {})) → has_frame message.now ≡ false }
 {
-    let frame = encode(alloc, message)?;
+    let frame = encode(alloc, message).map_err(encoding_error)?;
     name.write(out)?;
     out.bytes(&frame)?;
     Ok(())
 }
 
 #[tactic(auto, unfolding(crate::specs::Outgoing::completion))]
-fn write_completion(stamp: u64, completed: &Completed, out: &mut Writer) -> Result<(), WriteError>
+fn write_completion(
+    stamp: u64,
+    completed: &Completed,
+    out: &mut Writer,
+) -> Result<(), Failed<NoEncoding>>
     ensures writes { OnOk result (out.new ≡ record { prefix = out.old.prefix; text = out.old.text ++ completion.of (stamp, completed.now) }) }
     ensures fits { OnOk result (completion.Fits (stamp, completed.now)) }
-    ensures none { result ≡ Err WriteError.NoEncoding → is_capture completed.now.by ≡ false }
+    ensures none { result ≡ Err (Failed.Because (record {})) → is_capture completed.now.by ≡ false }
 {
     if !is_capture(&completed.by) {
-        return Err(WriteError::NoEncoding);
+        return Err(Failed::Because(NoEncoding));
     }
     let by = parts_of(&completed.by);
     (stamp, (completed.id, (completed.answer, by))).write(out)?;
@@ -216,7 +220,7 @@ fn read_completion(reader: &mut Reader) -> Result<(u64, Completed), Fault>
 }
 
 /// The name at the start of bytes.
-fn name_at(bytes: &[u8]) -> Result<((u64, (u64, u64)), usize), ReadError>
+fn name_at(bytes: &[u8]) -> Result<((u64, (u64, u64)), usize), Failed<Fault>>
     ensures { ReadsPrefix format.name bytes.now result }
 {
     let mut reader = Reader::new(bytes);
@@ -224,7 +228,7 @@ fn name_at(bytes: &[u8]) -> Result<((u64, (u64, u64)), usize), ReadError>
     let length = reader.place() as usize;
     match found {
         Ok(found) => Ok((found, length)),
-        Err(fault) => Err(ReadError::Fault { place: fault.place }),
+        Err(fault) => Err(Failed::Because(fault)),
     }
 }
 
@@ -279,11 +283,11 @@ fn whole_sent(
 }
 
 /// The bytes are no message, or there is no memory for it.
-fn no_message(why: ReadError) -> Result<Option<Outgoing>, NoMemory>
-    ensures { IfOk result (λ read. (read ≡ None) × (why ≢ ReadError.NoMemory)) }
+fn no_message(why: Failed<Fault>) -> Result<Option<Outgoing>, NoMemory>
+    ensures { IfOk result (λ read. (read ≡ None) × (why ≢ Failed.NoMemory)) }
 {
     match why {
-        ReadError::NoMemory => Err(AllocError),
-        ReadError::Fault { .. } => Ok(None),
+        Failed::NoMemory => Err(AllocError),
+        Failed::Because(_) => Ok(None),
     }
 }

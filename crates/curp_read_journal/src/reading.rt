@@ -6,7 +6,7 @@ ghost use Rattle.curp_durable.specs.Journal.{HoldsJournal};
 ghost use Rattle.curp_durable.specs.Opening.{OpensNot};
 ghost use Rattle.curp_read_journal.specs.Items.{log_of};
 
-use curp_base::NoMemory;
+use curp_base::{Failed, NoMemory};
 use curp_cmd::NodeId;
 use curp_disk::Disk;
 use curp_durable::{OpenError, read_inputs};
@@ -23,19 +23,19 @@ pub fn read_journal<N: Core + Drop, D: Disk>(
     title: &[u8],
     node: N,
     id: NodeId,
-) -> Result<Kept<N>, OpenError>
+) -> Result<Kept<N>, Failed<OpenError>>
     ensures ok { (inputs : List Arrived) → D.tells ≡ true → HoldsJournal (D.seen disk.old) title.now inputs
         → IfOk result (λ kept. kept ≡ log_of N.machine id node inputs) }
     ensures quiet { Quiet D.seen D.may_leave D.moment D.left_since disk.old disk.new }
     ensures err { D.tells ≡ true → IfErr result (OpensNot (D.seen disk.old) title.now) }
-    ensures sound { D.sound disk.old → (result ≢ Err OpenError.DiskFault) × D.sound disk.new }
-    ensures cause { result ≡ Err OpenError.DiskFault → Rose (D.faults disk.old) (D.faults disk.new) }
+    ensures sound { D.sound disk.old → (result ≢ Err (Failed.Because OpenError.DiskFault)) × D.sound disk.new }
+    ensures cause { result ≡ Err (Failed.Because OpenError.DiskFault) → Rose (D.faults disk.old) (D.faults disk.new) }
     ensures never_falls { D.faults disk.old ≤ D.faults disk.new }
 {
     let inputs = read_inputs(alloc, disk, title)?;
     match replayed(alloc, inputs, node, id) {
         Ok(kept) => Ok(kept),
-        Err(_) => Err(OpenError::NoMemory),
+        Err(_) => Err(Failed::NoMemory),
     }
 }
 

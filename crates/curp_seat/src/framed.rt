@@ -3,11 +3,11 @@ ghost use Rattle.curp_wire.specs.Frame.{Frame};
 ghost use Rattle.curp_seat.specs.Carrying.{CrossesAs, IsFrame, IsPacked};
 
 use crate::opening::Opening;
-use curp_base::NoMemory;
+use curp_base::{Failed, NoMemory};
 use curp_cmd::NodeId;
 use curp_journal::Named;
 use curp_msg::Message;
-use curp_wire::{FrameError, decode, encode_light, is_light};
+use curp_wire::{decode, encode_light, is_light};
 use std::alloc::{AllocError, Global};
 use std::marker::Model;
 
@@ -103,7 +103,7 @@ fn message_of(alloc: Global, frame: &[u8]) -> Result<Message, NoMemory>
 {
     match decode(alloc, frame) {
         Ok((message, _)) => Ok(message),
-        Err(FrameError::NoMemory) => Err(AllocError),
+        Err(Failed::NoMemory) => Err(AllocError),
         Err(_) => unreachable!(),
     }
 }

@@ -1,6 +1,7 @@
 // Inputs that come alone: orders for a manager whose disk stops, and messages for a backup.
 use crate::build::{begin, fence, fence_by_name, must_hold, opened};
 use crate::manager::{manager, reopened};
+use curp_base::Failed;
 use curp_disk::StopDisk;
 use curp_durable::{Durable, DurableError};
 use curp_journal::Arrived;
@@ -10,7 +11,7 @@ use std::alloc::Global;
 use std::process::Abort;
 
 /// Whether an input is refused by that number, and so many messages go out by it.
-fn is_done(done: Result<Done, DurableError>, refused: u8, sent: usize) -> bool {
+fn is_done(done: Result<Done, Failed<DurableError>>, refused: u8, sent: usize) -> bool {
     match done {
         Ok(done) => {
             let is_done = done.refused == refused && done.sent.len() == sent;
@@ -50,7 +51,7 @@ fn fails<N: Core + Drop>(
             drop(done);
             false
         }
-        Err(error) => error == why,
+        Err(error) => error == Failed::Because(why),
     }
 }
 

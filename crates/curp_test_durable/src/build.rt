@@ -1,5 +1,5 @@
 //! What the tests build alike, by calls of which they know nothing. A test ends where something isn't built.
-use curp_base::NoMemory;
+use curp_base::{Failed, NoMemory};
 use curp_cmd::NodeId;
 use curp_disk::Disk;
 use curp_durable::{Answered, Durable, DurableError, OpenError, OpenFailed, SIZE_LIMIT, format};
@@ -23,7 +23,7 @@ pub(crate) fn begin<D: Disk>(rt: &impl Abort, alloc: Global, disk: &mut D) {
     assert!(rt; format(alloc, disk, TITLE).is_ok());
 }
 
-fn why<D: Disk + Drop>(failed: OpenFailed<D>) -> OpenError {
+fn why<D: Disk + Drop>(failed: OpenFailed<D>) -> Failed<OpenError> {
     let error = failed.error;
     drop(failed);
     error
@@ -34,7 +34,7 @@ pub(crate) fn opened<N: Core + Drop, D: Disk + Drop>(
     alloc: Global,
     disk: D,
     node: N,
-) -> Result<Durable<N, D>, OpenError> {
+) -> Result<Durable<N, D>, Failed<OpenError>> {
     opened_as(alloc, disk, TITLE, node, SIZE_LIMIT)
 }
 
@@ -45,7 +45,7 @@ pub(crate) fn opened_as<N: Core + Drop, D: Disk + Drop>(
     title: &[u8],
     node: N,
     size_limit: u64,
-) -> Result<Durable<N, D>, OpenError> {
+) -> Result<Durable<N, D>, Failed<OpenError>> {
     match Durable::open(alloc, disk, title, node, size_limit) {
         Ok(durable) => Ok(durable),
         Err(failed) => Err(why(failed)),
@@ -57,7 +57,7 @@ pub(crate) fn numbers<N: Core + Drop, D: Disk>(
     alloc: Global,
     durable: &mut Durable<N, D>,
     inputs: Vec<Arrived>,
-) -> Result<Vec<u64>, DurableError> {
+) -> Result<Vec<u64>, Failed<DurableError>> {
     let answers = durable.on_all(inputs)?;
     let numbers = numbers_of(alloc, &answers);
     drop(answers);
@@ -97,7 +97,7 @@ pub(crate) fn ordered<N: Core + Drop, D: Disk>(
     alloc: Global,
     durable: &mut Durable<N, D>,
     order: Local,
-) -> Result<(u64, usize), DurableError> {
+) -> Result<(u64, usize), Failed<DurableError>> {
     let mut inputs = Vec::new(alloc);
     add(rt, &mut inputs, Arrived::Local(order, 0));
     let answers = durable.on_all(inputs)?;
@@ -151,7 +151,7 @@ pub(crate) fn order_fails<N: Core + Drop, D: Disk>(
 ) -> bool {
     match ordered(rt, alloc, durable, order) {
         Ok(_) => false,
-        Err(error) => error == why,
+        Err(error) => error == Failed::Because(why),
     }
 }
 

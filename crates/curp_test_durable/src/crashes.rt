@@ -2,6 +2,7 @@
 use crate::build::{
     TITLE, add, begin, fence, fences, must_hold, nudge_tells, nudged, numbers, opened, opened_as,
 };
+use curp_base::Failed;
 use curp_disk::StopDisk;
 use curp_durable::{Durable, DurableError, OpenError, SIZE_LIMIT};
 use curp_journal::Arrived;
@@ -32,7 +33,7 @@ fn kept(
     alloc: Global,
     durable: &mut Durable<BackupNode, StopDisk>,
     count: u32,
-) -> Result<usize, DurableError> {
+) -> Result<usize, Failed<DurableError>> {
     let numbers = numbers(alloc, durable, fences(rt, alloc, count))?;
     let count = numbers.len();
     drop(numbers);
@@ -60,7 +61,7 @@ fn fails(
 ) -> bool {
     match kept(rt, alloc, durable, count) {
         Ok(_) => false,
-        Err(error) => error == why,
+        Err(error) => error == Failed::Because(why),
     }
 }
 
@@ -132,7 +133,7 @@ fn what_is_refused_is_not_kept(rt: HostRuntime) {
 }
 
 /// Why a disk isn't opened as of that title.
-fn error_by(rt: &impl Abort, alloc: Global, title: &[u8]) -> Option<OpenError> {
+fn error_by(rt: &impl Abort, alloc: Global, title: &[u8]) -> Option<Failed<OpenError>> {
     let disk = disk_of_three(rt, alloc);
     match opened_as(alloc, disk, title, backup(alloc), SIZE_LIMIT) {
         Ok(durable) => {
@@ -149,7 +150,11 @@ fn another_title_is_not_opened(rt: HostRuntime) {
     let own = error_by(&rt, alloc, b"node");
     must_hold(&rt, "its own", own == None);
     let other = error_by(&rt, alloc, b"nods");
-    must_hold(&rt, "another", other == Some(OpenError::NotFormatted));
+    must_hold(
+        &rt,
+        "another",
+        other == Some(Failed::Because(OpenError::NotFormatted)),
+    );
 }
 
 fn try_to_fill(rt: &impl Abort, alloc: Global, durable: &mut Durable<BackupNode, StopDisk>) {

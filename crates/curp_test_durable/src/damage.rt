@@ -1,7 +1,7 @@
 // Journals by their bytes, which were written by hand: the checksums by another program.
 use crate::build::{add, begin, must_hold, nudged, numbers, opened};
 use crate::manager::manager;
-use curp_base::{Items, Shared};
+use curp_base::{Failed, Items, Shared};
 use curp_cmd::{Command, Key, NodeId, Request, RequestId};
 use curp_disk::{Did, Disk, MemoryDisk};
 use curp_durable::OpenError;
@@ -157,7 +157,7 @@ fn took<N: Core + Drop>(
     alloc: Global,
     bytes: &[u8],
     node: N,
-) -> Result<(u64, usize), OpenError> {
+) -> Result<(u64, usize), Failed<OpenError>> {
     let mut durable = opened(alloc, disk_of(rt, alloc, bytes), node)?;
     let told = nudged(rt, alloc, &mut durable);
     drop(durable);
@@ -165,8 +165,8 @@ fn took<N: Core + Drop>(
 }
 
 fn is_told(
-    told: Result<(u64, usize), OpenError>,
-    wanted: Result<u64, OpenError>,
+    told: Result<(u64, usize), Failed<OpenError>>,
+    wanted: Result<u64, Failed<OpenError>>,
     sent: usize,
 ) -> bool {
     match (told, wanted) {
@@ -178,21 +178,26 @@ fn is_told(
 
 fn try_told(
     rt: &impl Abort,
-    told: Result<(u64, usize), OpenError>,
-    wanted: Result<u64, OpenError>,
+    told: Result<(u64, usize), Failed<OpenError>>,
+    wanted: Result<u64, Failed<OpenError>>,
     sent: usize,
 ) {
     must_hold(rt, "a journal", is_told(told, wanted, sent));
 }
 
 /// By the first of the inputs one client is gone, so the manager then sends one message more on a nudge.
-fn try_manager(rt: &impl Abort, alloc: Global, bytes: &[u8], wanted: Result<u64, OpenError>) {
+fn try_manager(
+    rt: &impl Abort,
+    alloc: Global,
+    bytes: &[u8],
+    wanted: Result<u64, Failed<OpenError>>,
+) {
     let sent = if wanted == Ok(0) { 2 } else { 3 };
     try_told(rt, took(rt, alloc, bytes, manager(rt, alloc)), wanted, sent);
 }
 
 /// Each kind of node took so many inputs by the bytes, or they are no journal for this reason.
-fn try_bytes(rt: &impl Abort, alloc: Global, bytes: &[u8], wanted: Result<u64, OpenError>) {
+fn try_bytes(rt: &impl Abort, alloc: Global, bytes: &[u8], wanted: Result<u64, Failed<OpenError>>) {
     try_manager(rt, alloc, bytes, wanted);
     try_told(rt, took(rt, alloc, bytes, client(alloc)), wanted, 0);
     try_told(
@@ -205,14 +210,14 @@ fn try_bytes(rt: &impl Abort, alloc: Global, bytes: &[u8], wanted: Result<u64, O
     try_told(rt, took(rt, alloc, bytes, witness(rt, alloc)), wanted, 0);
 }
 
-fn damaged(place: u64) -> Result<u64, OpenError> {
-    Err(OpenError::Damaged { place })
+fn damaged(place: u64) -> Result<u64, Failed<OpenError>> {
+    Err(Failed::Because(OpenError::Damaged { place }))
 }
 
 /// How a journal opens that ends here.
-fn of_prefix(end: usize) -> Result<u64, OpenError> {
+fn of_prefix(end: usize) -> Result<u64, Failed<OpenError>> {
     match end {
-        0..=4 => Err(OpenError::NotFormatted),
+        0..=4 => Err(Failed::Because(OpenError::NotFormatted)),
         5..=31 => damaged(4),
         32..=157 => damaged(31),
         158..=190 => damaged(157),
@@ -229,9 +234,9 @@ fn a_journal_may_be_cut_anywhere(rt: HostRuntime) {
 }
 
 /// How a journal opens whose byte at this place has some bits turned, the lowest among them or not.
-fn of_change(place: usize, lowest: bool) -> Result<u64, OpenError> {
+fn of_change(place: usize, lowest: bool) -> Result<u64, Failed<OpenError>> {
     match place {
-        0..=3 => Err(OpenError::NotFormatted),
+        0..=3 => Err(Failed::Because(OpenError::NotFormatted)),
         4 => Ok(0),
         5..=30 => damaged(4),
         31 => Ok(1),

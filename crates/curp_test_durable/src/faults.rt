@@ -1,5 +1,6 @@
 // A disk that fails at one of its calls, at each in turn: at those that read it and ask for its length too.
 use crate::build::{TITLE, fences, must_hold, numbers, opened};
+use curp_base::Failed;
 use curp_disk::MemoryDisk;
 use curp_durable::{Durable, DurableError, FormatError, OpenError, format};
 use curp_nodes::BackupNode;
@@ -21,7 +22,8 @@ fn told_by_format(rt: &impl Abort, alloc: Global, failing: u64) -> Told {
     match format(alloc, &mut disk, TITLE) {
         Ok(()) => told_by_open(rt, alloc, disk),
         Err(error) => {
-            must_hold(rt, "formatting", error == FormatError::DiskFault);
+            let why = Failed::Because(FormatError::DiskFault);
+            must_hold(rt, "formatting", error == why);
             drop(disk);
             Told::ByFormat
         }
@@ -32,7 +34,8 @@ fn told_by_open(rt: &impl Abort, alloc: Global, disk: MemoryDisk) -> Told {
     match opened(alloc, disk, BackupNode::new(alloc, 1, 1)) {
         Ok(durable) => told_by_batch(rt, alloc, durable),
         Err(error) => {
-            must_hold(rt, "opening", error == OpenError::DiskFault);
+            let why = Failed::Because(OpenError::DiskFault);
+            must_hold(rt, "opening", error == why);
             Told::ByOpen
         }
     }
@@ -51,7 +54,8 @@ fn told_by_batch(
             Told::ByNone
         }
         Err(error) => {
-            must_hold(rt, "a batch", error == DurableError::DiskFault);
+            let why = Failed::Because(DurableError::DiskFault);
+            must_hold(rt, "a batch", error == why);
             Told::ByBatch
         }
     }

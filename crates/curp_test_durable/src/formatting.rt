@@ -1,6 +1,7 @@
 // An empty journal is written again where it wasn't at first, and over no journal.
 use crate::build::{TITLE, must_hold, opened};
 use crate::damage::{JOURNAL, disk_of, has_bytes, written};
+use curp_base::Failed;
 use curp_disk::{Did, Disk, MemoryDisk};
 use curp_durable::{FormatError, format};
 use curp_nodes::BackupNode;
@@ -32,7 +33,7 @@ fn must_refuse(
 ) {
     match format(alloc, &mut disk, TITLE) {
         Ok(()) => rt.panic("written over"),
-        Err(error) => must_hold(rt, "why", error == why),
+        Err(error) => must_hold(rt, "why", error == Failed::Because(why)),
     }
     disk.crash(true);
     must_hold(rt, "as it was", has_bytes(disk, bytes));
@@ -43,7 +44,10 @@ fn faulted(rt: &impl Abort, alloc: Global, failing: u64) -> MemoryDisk {
     let mut disk = MemoryDisk::new(alloc, &[failing]).expect(rt, "no memory");
     match format(alloc, &mut disk, TITLE) {
         Ok(()) => rt.panic("no fault"),
-        Err(error) => must_hold(rt, "a fault", error == FormatError::DiskFault),
+        Err(error) => {
+            let why = Failed::Because(FormatError::DiskFault);
+            must_hold(rt, "a fault", error == why);
+        }
     }
     disk
 }

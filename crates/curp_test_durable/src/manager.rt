@@ -1,6 +1,7 @@
 // A manager whose disk stops: what it decided is sent again once its journal is opened.
 use crate::build::{TITLE, add, begin, must_hold, nudge_tells, opened, order_fails, order_tells};
 use crate::damage::disk_of;
+use curp_base::Failed;
 use curp_changes::Shape;
 use curp_disk::{Disk, MemoryDisk, StopDisk};
 use curp_durable::{Durable, DurableError, OpenError, SIZE_LIMIT};
@@ -85,7 +86,7 @@ fn a_manager_whose_disk_stops_is_spent(rt: HostRuntime) {
     drop(durable);
 }
 
-fn error_of(rt: &impl Abort, alloc: Global, disk: MemoryDisk) -> Option<OpenError> {
+fn error_of(rt: &impl Abort, alloc: Global, disk: MemoryDisk) -> Option<Failed<OpenError>> {
     match opened(alloc, disk, manager(rt, alloc)) {
         Ok(durable) => {
             drop(durable);
@@ -101,10 +102,11 @@ fn what_is_no_journal_is_told(rt: HostRuntime) {
     let alloc = rt.alloc();
     let disk = MemoryDisk::new(alloc, &[]).expect(&rt, "no memory");
     let error = error_of(&rt, alloc, disk);
-    must_hold(&rt, "empty", error == Some(OpenError::NotFormatted));
+    let empty = Some(Failed::Because(OpenError::NotFormatted));
+    must_hold(&rt, "empty", error == empty);
     let disk = disk_of(&rt, alloc, b"node\x01");
     let error = error_of(&rt, alloc, disk);
-    let damaged = Some(OpenError::Damaged { place: 4 });
+    let damaged = Some(Failed::Because(OpenError::Damaged { place: 4 }));
     must_hold(&rt, "damaged", error == damaged);
 }
 

@@ -1,8 +1,9 @@
 //! Frames by calls of which the tests know nothing.
 
+use curp_base::Failed;
 use curp_msg::Message;
 use curp_same::Same;
-use curp_wire::{EncodeError, FrameError, decode, encode, is_light};
+use curp_wire::{FrameError, NoFrame, decode, encode, is_light};
 use std::alloc::Global;
 
 /// The frame of a message, if it has one.
@@ -11,7 +12,7 @@ pub(crate) fn frame_of(alloc: Global, message: &Message) -> Option<Vec<u8>> {
 }
 
 /// Why a message wasn't encoded.
-pub(crate) fn refusal_of(alloc: Global, message: &Message) -> Option<EncodeError> {
+pub(crate) fn refusal_of(alloc: Global, message: &Message) -> Option<Failed<NoFrame>> {
     encode(alloc, message).err()
 }
 
@@ -23,7 +24,7 @@ pub(crate) fn message_in(alloc: Global, bytes: &[u8]) -> Option<Message> {
     }
 }
 
-fn read_frame(alloc: Global, bytes: &[u8]) -> Result<(Message, usize), FrameError> {
+fn read_frame(alloc: Global, bytes: &[u8]) -> Result<(Message, usize), Failed<FrameError>> {
     decode(alloc, bytes)
 }
 
@@ -48,7 +49,7 @@ pub(crate) fn reads(alloc: Global, bytes: &[u8], message: &Message, length: usiz
 }
 
 /// Why the bytes begin with no frame.
-pub(crate) fn fault_of(alloc: Global, bytes: &[u8]) -> Option<FrameError> {
+pub(crate) fn fault_of(alloc: Global, bytes: &[u8]) -> Option<Failed<FrameError>> {
     match read_frame(alloc, bytes) {
         Ok((found, _)) => {
             drop(found);

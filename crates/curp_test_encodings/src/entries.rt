@@ -5,8 +5,9 @@ ghost use Rattle.curp_items.specs.Encoding.{HasEncoding};
 use crate::build::{all_kinds, give, largest, op, op_of, request, take, value};
 use crate::hex::{Encoded, bytes_of, encoding_of};
 use crate::holds::must_hold;
+use curp_base::Failed;
 use curp_cmd::{Entry, Request};
-use curp_items::{EntryError, pack_entry, read_entry, read_request};
+use curp_items::{Fault, pack_entry, read_entry, read_request};
 use curp_same::Same;
 use std::alloc::Global;
 use std::process::Abort;
@@ -31,7 +32,7 @@ fn pack(rt: &impl Abort, entry: &Entry, bytes: &mut Vec<u8>) {
     assert!(rt; pack_entry(entry, bytes).is_ok());
 }
 
-fn entry_of(alloc: Global, bytes: &[u8]) -> Result<(Entry, usize), EntryError> {
+fn entry_of(alloc: Global, bytes: &[u8]) -> Result<(Entry, usize), Failed<Fault>> {
     read_entry(alloc, bytes)
 }
 
@@ -68,7 +69,7 @@ fn length_of(alloc: Global, bytes: &[u8], entry: &Entry) -> Option<usize> {
 }
 
 /// Why the bytes begin with no entry.
-fn fault_of(alloc: Global, bytes: &[u8]) -> Option<EntryError> {
+fn fault_of(alloc: Global, bytes: &[u8]) -> Option<Failed<Fault>> {
     match entry_of(alloc, bytes) {
         Ok((found, _)) => {
             drop(found);
@@ -98,7 +99,7 @@ fn has_its_request(entry: &Entry, bytes: &[u8]) -> bool {
 
 /// Whether these bytes are no entry, for that place, and no request.
 fn is_none(alloc: Global, bytes: &[u8], place: u64) -> bool {
-    fault_of(alloc, bytes) == Some(EntryError::BadEntry { place }) && encoded(bytes).is_none()
+    fault_of(alloc, bytes) == Some(Failed::Because(Fault { place })) && encoded(bytes).is_none()
 }
 
 fn cuts_are_told(alloc: Global, encoding: &Encoded) -> bool {
@@ -137,8 +138,8 @@ fn change_is_told(rt: &impl Abort, alloc: Global, entry: &Entry, bytes: &[u8], i
             drop(found);
             is_right
         }
-        Err(EntryError::BadEntry { place }) => item <= place && place <= bytes.len() as u64,
-        Err(EntryError::NoMemory) => false,
+        Err(Failed::Because(Fault { place })) => item <= place && place <= bytes.len() as u64,
+        Err(Failed::NoMemory) => false,
     }
 }
 

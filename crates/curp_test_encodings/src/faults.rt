@@ -3,16 +3,18 @@
 use crate::calls::fault_of;
 use crate::hex::bytes_of;
 use crate::holds::must_hold;
+use curp_base::Failed;
 use curp_wire::FrameError;
 use std::alloc::Global;
 use std::process::Abort;
 
-fn fault_in(rt: &impl Abort, alloc: Global, text: &str) -> Option<FrameError> {
+fn fault_in(rt: &impl Abort, alloc: Global, text: &str) -> Option<Failed<FrameError>> {
     let bytes = bytes_of(rt, alloc, text);
     fault_of(alloc, &bytes)
 }
 
 fn try_fault(rt: &impl Abort, alloc: Global, text: &str, why: FrameError) {
+    let why = Failed::Because(why);
     must_hold(rt, text, "fault", fault_in(rt, alloc, text) == Some(why));
 }
 
@@ -121,7 +123,12 @@ fn commands(rt: HostRuntime) {
 }
 
 /// The fault of a frame with so many letters in place of `X`.
-fn fault_with(rt: &impl Abort, alloc: Global, text: &str, count: usize) -> Option<FrameError> {
+fn fault_with(
+    rt: &impl Abort,
+    alloc: Global,
+    text: &str,
+    count: usize,
+) -> Option<Failed<FrameError>> {
     let letters = "78".repeat(alloc, count).expect(rt, "no memory");
     let text = text.replace(alloc, "X", &letters).expect(rt, "no memory");
     fault_in(rt, alloc, &text)
@@ -139,7 +146,7 @@ fn a_value_has_its_limit(rt: HostRuntime) {
     );
     let longer =
         "000000a0 04 0100000001 0400000001 00000001 00000001 00000001 02 0161 81X 00000001";
-    let why = FrameError::BadField { place: 30 };
+    let why = Failed::Because(FrameError::BadField { place: 30 });
     must_hold(
         &rt,
         longer,

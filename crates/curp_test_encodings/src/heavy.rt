@@ -3,9 +3,10 @@
 use crate::calls::{frame_of, is_light_message, message_in, refusal_of};
 use crate::hex::bytes_of;
 use crate::holds::must_hold;
+use curp_base::Failed;
 use curp_cmd::NodeId;
 use curp_msg::{Body, Message};
-use curp_wire::EncodeError;
+use curp_wire::NoFrame;
 use std::alloc::Global;
 use std::process::Abort;
 
@@ -63,7 +64,7 @@ fn has_no_frame(alloc: Global, from: NodeId) -> bool {
     };
     let refusal = refusal_of(alloc, &message);
     drop(message);
-    refusal == Some(EncodeError::NoFrame)
+    refusal == Some(Failed::Because(NoFrame))
 }
 
 /// Only the manager has the number 0.

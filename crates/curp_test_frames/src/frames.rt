@@ -3,7 +3,7 @@
 use crate::build::message;
 use crate::hex::{Encoded, encoding_of};
 use crate::holds::must_hold;
-use curp_base::NoMemory;
+use curp_base::{Failed, NoMemory};
 use curp_msg::{Body, Message};
 use curp_same::Same;
 use curp_wire::{FrameError, decode, encode, encode_light, is_light};
@@ -22,7 +22,7 @@ fn frame_of(alloc: Global, message: &Message) -> Option<Vec<u8>> {
     if frame == other { Some(frame) } else { None }
 }
 
-fn read_frame(alloc: Global, bytes: &[u8]) -> Result<(Message, usize), FrameError> {
+fn read_frame(alloc: Global, bytes: &[u8]) -> Result<(Message, usize), Failed<FrameError>> {
     decode(alloc, bytes)
 }
 
@@ -56,7 +56,7 @@ fn reads(alloc: Global, bytes: &[u8], message: &Message, length: usize) -> bool 
 }
 
 /// Why the bytes begin with no frame.
-fn fault_of(alloc: Global, bytes: &[u8]) -> Option<FrameError> {
+fn fault_of(alloc: Global, bytes: &[u8]) -> Option<Failed<FrameError>> {
     match read_frame(alloc, bytes) {
         Ok((found, _)) => {
             drop(found);
@@ -83,7 +83,7 @@ fn is_read(rt: &impl Abort, alloc: Global, message: &Message, frame: &[u8]) -> b
 fn is_short(alloc: Global, frame: &[u8], end: usize) -> bool {
     let need = if end < 4 { 4 } else { frame.len() as u64 };
     match frame.get(..end) {
-        Some(cut) => fault_of(alloc, cut) == Some(FrameError::Short { need }),
+        Some(cut) => fault_of(alloc, cut) == Some(Failed::Because(FrameError::Short { need })),
         None => false,
     }
 }
@@ -109,15 +109,17 @@ struct Change<'a> {
 
 impl Change<'_> {
     /// The length was changed, if the place is in it: a fault is told at it, or where the frame now ends.
-    fn is_told(&self, why: FrameError) -> bool {
+    fn is_told(&self, why: Failed<FrameError>) -> bool {
         let is_length = self.place < 4;
         let length = self.bytes.len() as u64;
         match why {
-            FrameError::Short { need } => is_length && need > length,
-            FrameError::BadTag => self.place == 4,
-            FrameError::BadField { place: 0 } => is_length,
-            FrameError::BadField { place } => place > 4 && self.item <= place && place <= length,
-            FrameError::NoMemory => false,
+            Failed::Because(FrameError::Short { need }) => is_length && need > length,
+            Failed::Because(FrameError::BadTag) => self.place == 4,
+            Failed::Because(FrameError::BadField { place: 0 }) => is_length,
+            Failed::Because(FrameError::BadField { place }) => {
+                place > 4 && self.item <= place && place <= length
+            }
+            Failed::NoMemory => false,
         }
     }
 

@@ -4,8 +4,8 @@ ghost use Rattle.curp_parcels.specs.Outgoing.{has_encoding};
 ghost use Rattle.curp_told.specs.Told.{all_told, completion_told, message_told, messages_told, parcels_of};
 ghost use Rattle.curp_told.specs.Told.{said_or_withheld, told};
 
-use curp_base::NoMemory;
-use curp_batches::WriteError;
+use curp_base::{Failed, NoMemory};
+use curp_batches::NoEncoding;
 use curp_durable::Answered;
 use curp_journal::Item;
 use curp_msg::{Completed, Message};
@@ -21,8 +21,8 @@ pub fn tell_one(alloc: Global, said: &Outgoing, text: &mut Vec<u8>) -> Result<()
 {
     match encode_outgoing(alloc, said) {
         Ok(parcel) => text.extend_from_slice(&parcel),
-        Err(WriteError::NoEncoding) => unreachable!(),
-        Err(WriteError::NoMemory) => Err(AllocError),
+        Err(Failed::Because(NoEncoding)) => unreachable!(),
+        Err(Failed::NoMemory) => Err(AllocError),
     }
 }
 
@@ -43,10 +43,10 @@ fn tell_or_withhold(
     what_is_said_has_an_encoding();
     match encode_outgoing(alloc, said) {
         Ok(parcel) => text.extend_from_slice(&parcel),
-        Err(WriteError::NoEncoding) => {
+        Err(Failed::Because(NoEncoding)) => {
             tell_one(alloc, &Outgoing::Withheld { step, place, stamp }, text)
         }
-        Err(WriteError::NoMemory) => Err(AllocError),
+        Err(Failed::NoMemory) => Err(AllocError),
     }
 }
 

@@ -5,9 +5,9 @@ ghost use Rattle.curp_items.specs.Format.{by_tag};
 ghost use Rattle.curp_fields.specs.Fields.{body_parts, body_variants, last_variants, later_variants};
 ghost use Rattle.curp_fields.specs.Encoding.{HasFields};
 
-use curp_base::NoMemory;
+use curp_base::{Failed, NoMemory};
 use curp_fields::{Part, read_parts, write_parts};
-use curp_items::{Item, ReadError, Reader, Writer};
+use curp_items::{Fault, Item, Reader, Writer};
 use curp_msg::Body;
 use std::alloc::Global;
 
@@ -98,7 +98,11 @@ pub(crate) fn write_fields(body: &Body, out: &mut Writer) -> Result<(), NoMemory
 
 /// Reads the fields of the tag.
 #[tactic(auto, unfolding(curp_fields::specs::Fields::requests))]
-pub(crate) fn read_fields(tag: u8, alloc: Global, reader: &mut Reader) -> Result<Body, ReadError>
+pub(crate) fn read_fields(
+    tag: u8,
+    alloc: Global,
+    reader: &mut Reader,
+) -> Result<Body, Failed<Fault>>
     ensures { ReadsIfMemory result reader.new (by_tag body_variants tag reader.old.place reader.old) }
 {
     match tag {
@@ -121,7 +125,7 @@ pub(crate) fn read_fields(tag: u8, alloc: Global, reader: &mut Reader) -> Result
 
 /// The same where the tag is none of a client's.
 #[tactic(auto, unfolding(curp_fields::specs::Fields::requests))]
-fn read_later_fields(tag: u8, alloc: Global, reader: &mut Reader) -> Result<Body, ReadError>
+fn read_later_fields(tag: u8, alloc: Global, reader: &mut Reader) -> Result<Body, Failed<Fault>>
     ensures { ReadsIfMemory result reader.new (by_tag later_variants tag reader.old.place reader.old) }
 {
     match tag {
@@ -150,7 +154,7 @@ fn read_later_fields(tag: u8, alloc: Global, reader: &mut Reader) -> Result<Body
 
 /// The same where the tag is none of those before.
 #[tactic(auto, unfolding(curp_fields::specs::Fields::requests))]
-fn read_last_fields(tag: u8, alloc: Global, reader: &mut Reader) -> Result<Body, ReadError>
+fn read_last_fields(tag: u8, alloc: Global, reader: &mut Reader) -> Result<Body, Failed<Fault>>
     ensures { ReadsIfMemory result reader.new (by_tag last_variants tag reader.old.place reader.old) }
 {
     match tag {
@@ -173,8 +177,8 @@ fn read_last_fields(tag: u8, alloc: Global, reader: &mut Reader) -> Result<Body,
         33 => Ok(Body::Probed(Part::read(alloc, reader)?)),
         34 => Ok(Body::Glance(Part::read(alloc, reader)?)),
         35 => Ok(Body::Quick(Part::read(alloc, reader)?)),
-        _ => Err(ReadError::Fault {
+        _ => Err(Failed::Because(Fault {
             place: reader.place(),
-        }),
+        })),
     }
 }

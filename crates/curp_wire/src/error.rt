@@ -1,28 +1,15 @@
 ghost use Rattle.std.specs.Prelude.{◌≡◌};
-ghost use Rattle.curp_wire.specs.declared.error.EncodeError.TheVariants as writing;
+ghost use Rattle.curp_wire.specs.Errors.{frame_error};
 
-use curp_base::NoMemory;
-use curp_items::{Fault, ReadError};
+use curp_base::Failed;
+use curp_items::Fault;
 use thiserror::Error;
 
-/// Why a message wasn't written as a frame.
+/// There is no frame of a message: a node in it has the number 0 and isn't the manager, or the other way round, or a list has
+/// more elements than 32 bits count, or more bytes would stand behind the length than that tells.
 #[derive(Clone, Copy, Debug, PartialEq, Eq, Error)]
-pub enum EncodeError {
-    /// There is no frame of it: a node in it has the number 0 and isn't the manager, or the other way round, or a list has
-    /// more elements than 32 bits count, or more bytes would stand behind the length than that tells.
-    #[error("the message has no frame")]
-    NoFrame,
-    #[error("out of memory")]
-    NoMemory,
-}
-
-impl From<NoMemory> for EncodeError {
-    ghost from_gives = { λ _ e. e ≡ writing.NoMemory };
-
-    fn from(_: NoMemory) -> EncodeError {
-        EncodeError::NoMemory
-    }
-}
+#[error("the message has no frame")]
+pub struct NoFrame;
 
 /// Why bytes begin with no frame. The first that holds is told.
 #[derive(Clone, Copy, Debug, PartialEq, Eq, Error)]
@@ -37,30 +24,21 @@ pub enum FrameError {
     /// over: this is the place of its first byte. The place 0 is that of the frame's length.
     #[error("byte {place} of the frame is wrong")]
     BadField { place: u64 },
-    /// There was no memory for the message.
-    #[error("out of memory")]
-    NoMemory,
 }
 
-impl From<Fault> for FrameError {
-    ghost use Rattle.curp_wire.specs.declared.error.FrameError.TheVariants as error;
-
-    ghost from_gives = { λ fault e. e ≡ error.BadField fault.place };
-
-    fn from(fault: Fault) -> FrameError {
-        FrameError::BadField { place: fault.place }
-    }
+/// A fault of a frame's content is one of a field.
+pub(crate) fn bad_field(fault: Fault) -> Failed<FrameError>
+    ensures { result ≡ Failed.Because (FrameError.BadField fault.place) }
+{
+    Failed::Because(FrameError::BadField { place: fault.place })
 }
 
-impl From<ReadError> for FrameError {
-    ghost use Rattle.curp_wire.specs.Errors.{frame_error};
-
-    ghost from_gives = { λ why e. e ≡ frame_error why };
-
-    fn from(why: ReadError) -> FrameError {
-        match why {
-            ReadError::Fault { place } => FrameError::BadField { place },
-            ReadError::NoMemory => FrameError::NoMemory,
-        }
+/// Why bytes are not decoded, by why a frame's content isn't read.
+pub(crate) fn frame_error(why: Failed<Fault>) -> Failed<FrameError>
+    ensures { result ≡ frame_error why }
+{
+    match why {
+        Failed::NoMemory => Failed::NoMemory,
+        Failed::Because(fault) => bad_field(fault),
     }
 }

@@ -15,7 +15,7 @@ mod message;
 mod reading;
 mod writing;
 
-pub use error::{EncodeError, FrameError};
+pub use error::{FrameError, NoFrame};
 pub use light::is_light;
 pub use limits::{CLIENT_LIMIT, LIGHT_LIMIT, NODE_LIMIT, PART_LIMIT};
 pub use reading::decode;

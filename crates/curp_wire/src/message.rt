@@ -5,9 +5,9 @@ ghost use Rattle.curp_wire.specs.Frame.{IsMessage, content, has_content, is_tag,
 ghost use Rattle.curp_fields.specs.Encoding.{HasContent};
 
 use crate::body::{read_fields, tag_of, write_fields};
-use curp_base::NoMemory;
+use curp_base::{Failed, NoMemory};
 use curp_fields::has_fields;
-use curp_items::{Item, ReadError, Reader, Writer, is_node};
+use curp_items::{Fault, Item, Reader, Writer, is_node};
 use curp_msg::Message;
 use std::alloc::Global;
 
@@ -36,7 +36,7 @@ pub(crate) fn read_message(
     tag: u8,
     alloc: Global,
     reader: &mut Reader,
-) -> Result<Message, ReadError>
+) -> Result<Message, Failed<Fault>>
     ensures { ReadsIfMemory result reader.new (read_message tag reader.old) }
 {
     let from = Item::read(reader)?;

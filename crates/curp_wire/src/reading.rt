@@ -2,40 +2,42 @@
 ghost use Rattle.std.specs.Prelude.{◌≡◌, ◌≢◌, ◌<◌, ◌≤◌, ◌^◌, ◌++◌, ℕ, List, length, take, drop, Ok, Err, IfOk, IfNone, IfSome, OnSome};
 ghost use Rattle.std.specs.Int.{w32, from_be_bytes};
 ghost use Rattle.curp_msg.specs.declared.message.Message.{Message};
+ghost use Rattle.curp_wire.specs.Errors.{GivesIfMemory};
 ghost use Rattle.curp_wire.specs.Frame.{Frame, frame_in, message_in};
 
-use crate::error::FrameError;
+use crate::error::{FrameError, bad_field, frame_error};
 use crate::message::{is_tag, read_message};
+use curp_base::Failed;
 use curp_items::Reader;
 use curp_msg::Message;
 use std::alloc::Global;
 
 /// The message whose frame the bytes begin with, and the frame's length.
-pub fn decode(alloc: Global, bytes: &[u8]) -> Result<(Message, usize), FrameError>
+pub fn decode(alloc: Global, bytes: &[u8]) -> Result<(Message, usize), Failed<FrameError>>
     // What is found is a frame's message.
     ensures found { IfOk result (λ found. Frame found.0 (take found.1 bytes.now)) }
     ensures within { IfOk result (λ found. found.1 ≤ length bytes.now) }
     // Each frame is found, whatever follows it.
     ensures only { (m : Message) (frame rest : List ℕ) → Frame m frame → bytes.now ≡ frame ++ rest
-        → result ≢ Err FrameError.NoMemory → result ≡ Ok (m, length frame) }
+        → result ≢ Err Failed.NoMemory → result ≡ Ok (m, length frame) }
     // Which error it is.
-    ensures exact { result ≢ Err FrameError.NoMemory → result ≡ frame_in bytes.now }
+    ensures exact { GivesIfMemory result (frame_in bytes.now) }
 {
     frame_at(alloc, bytes)
 }
 
-fn frame_at(alloc: Global, bytes: &[u8]) -> Result<(Message, usize), FrameError>
-    ensures { result ≢ Err FrameError.NoMemory → result ≡ frame_in bytes.now }
+fn frame_at(alloc: Global, bytes: &[u8]) -> Result<(Message, usize), Failed<FrameError>>
+    ensures { GivesIfMemory result (frame_in bytes.now) }
 {
     let Some((length, rest)) = split_length(bytes) else {
-        return Err(FrameError::Short { need: 4 });
+        return Err(Failed::Because(FrameError::Short { need: 4 }));
     };
     if length < 11 {
-        return Err(FrameError::BadField { place: 0 });
+        return Err(Failed::Because(FrameError::BadField { place: 0 }));
     }
     if rest.len() < length {
         let need = 4 + length as u64;
-        return Err(FrameError::Short { need });
+        return Err(Failed::Because(FrameError::Short { need }));
     }
     let message = message_in(alloc, &rest[..length])?;
     Ok((message, 4 + length))
@@ -58,16 +60,16 @@ fn split_length(bytes: &[u8]) -> Option<(usize, &[u8])>
 }
 
 /// The message of a frame's content.
-fn message_in(alloc: Global, content: &[u8]) -> Result<Message, FrameError>
-    ensures { result ≢ Err FrameError.NoMemory → result ≡ message_in content.now }
+fn message_in(alloc: Global, content: &[u8]) -> Result<Message, Failed<FrameError>>
+    ensures { GivesIfMemory result (message_in content.now) }
 {
     match content {
         [tag, rest @ ..] if is_tag(*tag) => {
             let mut reader = Reader::at(5, rest);
-            let message = read_message(*tag, alloc, &mut reader)?;
-            reader.end()?;
+            let message = read_message(*tag, alloc, &mut reader).map_err(frame_error)?;
+            reader.end().map_err(bad_field)?;
             Ok(message)
         }
-        _ => Err(FrameError::BadTag),
+        _ => Err(Failed::Because(FrameError::BadTag)),
     }
 }

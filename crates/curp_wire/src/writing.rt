@@ -5,10 +5,10 @@ ghost use Rattle.curp_fields.specs.Encoding.{HasContent};
 ghost use Rattle.curp_wire.specs.Frame.{Frame, IsMessage, content, content_limit, has_frame};
 ghost use Rattle.curp_wire.specs.Light.{is_light};
 
-use crate::error::EncodeError;
+use crate::error::NoFrame;
 use crate::limits::CONTENT_LIMIT;
 use crate::message::{has_content, write_content};
-use curp_base::NoMemory;
+use curp_base::{Failed, NoMemory};
 use curp_items::Writer;
 use curp_msg::Message;
 use std::alloc::Global;
@@ -16,17 +16,17 @@ use std::alloc::Global;
 /// The frame of a message. Nodes and counts are looked at before anything is written; that more bytes would stand behind
 /// the length than that tells is known only once they are.
 #[tactic(auto, using(crate::proofs::Frames::no_content, crate::proofs::Frames::too_long))]
-pub fn encode(alloc: Global, message: &Message) -> Result<Vec<u8>, EncodeError>
+pub fn encode(alloc: Global, message: &Message) -> Result<Vec<u8>, Failed<NoFrame>>
     ensures frame { IfOk result (λ bytes. Frame message.now bytes.items) }
     // `laws::a_frame_is_had`: then there is none.
-    ensures none { result ≡ Err EncodeError.NoFrame → has_frame message.now ≡ false }
+    ensures none { result ≡ Err (Failed.Because (record {})) → has_frame message.now ≡ false }
 {
     if !has_content(message) {
-        return Err(EncodeError::NoFrame);
+        return Err(Failed::Because(NoFrame));
     }
     let frame = behind_room(alloc, message)?;
     if frame.len() - 4 > CONTENT_LIMIT {
-        return Err(EncodeError::NoFrame);
+        return Err(Failed::Because(NoFrame));
     }
     Ok(with_length(frame))
 }

@@ -1,5 +1,5 @@
 use crate::mismatch::MessageMismatch;
-use curp_base::NoMemory;
+use curp_base::{Failed, NoMemory};
 use curp_collected::CollectError;
 use curp_disk::FileError;
 use curp_durable::{DurableError, FormatError, OpenError};
@@ -124,33 +124,33 @@ impl From<FileError> for Ending {
     }
 }
 
-impl From<FormatError> for Ending {
-    fn from(error: FormatError) -> Ending {
-        match error {
-            FormatError::NotEmpty => Ending::NotFormatted,
-            FormatError::DiskFault => Ending::DiskFault,
-            FormatError::NoMemory => Ending::NoMemory,
+impl From<Failed<FormatError>> for Ending {
+    fn from(failed: Failed<FormatError>) -> Ending {
+        match failed {
+            Failed::NoMemory => Ending::NoMemory,
+            Failed::Because(FormatError::NotEmpty) => Ending::NotFormatted,
+            Failed::Because(FormatError::DiskFault) => Ending::DiskFault,
         }
     }
 }
 
-impl From<OpenError> for Ending {
-    fn from(error: OpenError) -> Ending {
-        match error {
-            OpenError::DiskFault => Ending::DiskFault,
-            OpenError::NotFormatted => Ending::NotFormatted,
-            OpenError::Damaged { place } => Ending::Damaged { place },
-            OpenError::NoMemory => Ending::NoMemory,
+impl From<Failed<OpenError>> for Ending {
+    fn from(failed: Failed<OpenError>) -> Ending {
+        match failed {
+            Failed::NoMemory => Ending::NoMemory,
+            Failed::Because(OpenError::DiskFault) => Ending::DiskFault,
+            Failed::Because(OpenError::NotFormatted) => Ending::NotFormatted,
+            Failed::Because(OpenError::Damaged { place }) => Ending::Damaged { place },
         }
     }
 }
 
-impl From<DurableError> for Ending {
-    fn from(error: DurableError) -> Ending {
-        match error {
-            DurableError::Full | DurableError::NoEncoding => Ending::Full,
-            DurableError::DiskFault | DurableError::Spent => Ending::DiskFault,
-            DurableError::NoMemory => Ending::NoMemory,
+impl From<Failed<DurableError>> for Ending {
+    fn from(failed: Failed<DurableError>) -> Ending {
+        match failed {
+            Failed::NoMemory => Ending::NoMemory,
+            Failed::Because(DurableError::Full | DurableError::NoEncoding) => Ending::Full,
+            Failed::Because(DurableError::DiskFault | DurableError::Spent) => Ending::DiskFault,
         }
     }
 }

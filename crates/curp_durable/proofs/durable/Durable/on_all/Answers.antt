@@ -1,4 +1,5 @@
 use Rattle.std.proofs.Common.{◌≡◌, ◌+◌, ◌++◌, length, refl, inr, sym, ◌∙◌, ap, subst, arith}
+use Rattle.curp_base.specs.declared.failed.Failed.TheVariants as failed
 use Rattle.curp_disk.specs.Disk.{LeavesOnly}
 use Rattle.curp_io.specs.Streams.{Rose}
 use Rattle.curp_durable.specs.Journal.{IsBeforeOrAfter, IsSettled}
@@ -203,7 +204,7 @@ returns-in-Failed-clause-ran_err g c =
     let written = c.deref.result.now in
     let is : written ≡ record_of b = c.deref.ensures.value ∙ there.1 in
     let calls = calls_are inside.commit b written is (λ e. c.deref.ensures.value ∙ c.in-Ok.ensures.nothing e) in
-    subst (λ v. RanUntil D.wrote D.synced v.commit (taken machine v.stand inputs) v.disk c.append.new.disk durable.DiskFault) c.self.view_is
+    subst (λ v. RanUntil D.wrote D.synced v.commit (taken machine v.stand inputs) v.disk c.append.new.disk (failed.Because durable.DiskFault)) c.self.view_is
     (there.0, subst (λ l. MadeUntil D.wrote D.synced did.Failed l inside.disk c.append.new.disk) calls c.in-Failed.ensures.ran)
 
 pub returns-in-NoMemory-clause-ran_err : goal.returns-in-NoMemory-clause-ran_err
@@ -219,7 +220,7 @@ returns-in-NoMemory-clause-ran_err g c =
     let written = c.deref.result.now in
     let is : written ≡ record_of b = c.deref.ensures.value ∙ there.1 in
     let calls = calls_are inside.commit b written is (λ e. c.deref.ensures.value ∙ c.in-Ok.ensures.nothing e) in
-    subst (λ v. RanUntil D.wrote D.synced v.commit (taken machine v.stand inputs) v.disk c.append.new.disk durable.NoMemory) c.self.view_is
+    subst (λ v. RanUntil D.wrote D.synced v.commit (taken machine v.stand inputs) v.disk c.append.new.disk failed.NoMemory) c.self.view_is
     (inr (subst (λ l. MadeUntil D.wrote D.synced did.NoMemory l inside.disk c.append.new.disk) calls c.in-NoMemory.ensures.ran))
 
 pub returns-in-Err-Unchanged-clause-ran_err : goal.returns-in-Err-Unchanged-clause-ran_err
