@@ -1,15 +1,16 @@
 -- The frame that bytes begin with is what reading them finds.
-use Rattle.std.proofs.Common.{◌≡◌, ℕ, zero, suc, ◌+◌, ◌^◌, ◌<◌, ◌≤◌, Bool, true, false, ◌-◌, ◌≢◌, ◌&&◌, cond, ltb, List, [], ◌∷◌, ◌++◌, length, take, drop, Result, Ok, Err, refl, sym, ap, subst, ◌∙◌, append_assoc, arith}
+use Rattle.std.proofs.Common.{◌≡◌, ℕ, ◌+◌, ◌^◌, ◌<◌, ◌≤◌, Bool, true, false, ◌-◌, ◌≢◌, ◌&&◌, cond, ltb, List, [], ◌∷◌, ◌++◌, length, take, drop, Result, Ok, Err, refl, sym, ap, subst, ◌∙◌, append_assoc, arith}
 use Rattle.std.proofs.lemmas.Bool.{cond-false, le-ltb, le-leb, lt-leb, ltb-false, and_from}
 use Rattle.std.proofs.lemmas.List.{append-nil, drop-take, drop_at, length-append, length-drop, length-take, take-append-drop, take-take, take_at}
-use Rattle.std.proofs.lemmas.List.Elements.{All-drop, All-head, All-tail, All-take}
+use Rattle.std.proofs.lemmas.List.Elements.{All-drop, All-tail, All-take}
 use Rattle.std.proofs.lemmas.Nat.{be_bytes_4, from_be_bytes-to_be_bytes_4}
 use Rattle.std.specs.Prelude.{IfOk, nat_le}
 use Rattle.std.specs.Int.{w32, from_be_bytes, to_be_bytes}
 use Rattle.curp_base.specs.Cases.{◌>>=◌}
 use Rattle.curp_base.specs.Words.{AreBytes}
-use Rattle.curp_cmd.specs.declared.node.NodeId.{NodeId}
-use Rattle.curp_items.proofs.Combining.{IsByte, TakesFields, bind_ok, by_tag_sound, byte_in, done, input, ok_is, taken_bytes}
+use Rattle.curp_base.specs.declared.failed.Failed.{Failed}
+use Rattle.curp_base.specs.declared.failed.Failed.TheVariants as failed
+use Rattle.curp_items.proofs.Combining.{IsByte, bind_ok, by_tag_sound, byte_in, input, ok_is, taken_bytes}
 use Rattle.curp_items.proofs.Formats.{node_is}
 use Rattle.curp_items.specs.Format.{Input, by_tag}
 use Rattle.curp_items.specs.Items.{is_node, node}
@@ -22,6 +23,7 @@ use Rattle.curp_fields.proofs.Having.{fields_pass, node_passes}
 use Rattle.curp_fields.specs.Fields.{body_parts, body_variants}
 use Rattle.curp_fields.specs.Encoded.{has_fields}
 use Rattle.curp_wire.specs.Frame.{Frame, IsMessage, content, content_limit, ended, frame_in, frame_of_length, has_content, has_frame, in_fields, is_tag, message_in, read_message}
+use Rattle.curp_wire.specs.Errors.{FailsSo, GivesIfMemory}
 use Rattle.curp_wire.specs.declared.error.FrameError.{FrameError}
 use Rattle.curp_wire.specs.declared.error.FrameError.TheVariants as error
 
@@ -266,8 +268,17 @@ frame_had m bytes f =
 
 -- ---- what a call finds
 
-pub all_found : (bytes : List ℕ) (r : Result (Message × ℕ) FrameError) → AreBytes bytes → (r ≢ Err error.NoMemory → r ≡ frame_in bytes) → IfOk r (IsFound bytes)
-all_found bytes (Ok found) h e =
-    let other : Ok found ≢ Err error.NoMemory = λ same. absurd cc in
-    frame_found bytes found h (sym (e other))
+pub all_found : (bytes : List ℕ) (r : Result (Message × ℕ) (Failed FrameError)) → AreBytes bytes → GivesIfMemory r (frame_in bytes) → IfOk r (IsFound bytes)
+all_found bytes (Ok found) h e = frame_found bytes found h e
 all_found bytes (Err why) h e = tt
+
+-- what is there is found, unless memory runs out
+pub only_found : (bytes : List ℕ) (r : Result (Message × ℕ) (Failed FrameError)) (found : Message × ℕ) → GivesIfMemory r (frame_in bytes) → frame_in bytes ≡ Ok found → r ≢ Err failed.NoMemory → r ≡ Ok found
+only_found bytes (Ok x) found gives is other = ap (λ (y : Message × ℕ). Ok y) (okay_is x found (sym gives ∙ is))
+only_found bytes (Err failed.NoMemory) found gives is other = absurd (other refl)
+only_found bytes (Err (failed.Because why)) found gives is other = absurd (cc (sym gives ∙ is))
+
+-- a frame whose content fails fails so
+pub fails_so : (bytes : List ℕ) (n : ℕ) (r : Result Message FrameError) (why : Failed FrameError) → frame_in bytes ≡ (r >>= λ m. okay (m, 4 + n)) → FailsSo why r → FailsSo why (frame_in bytes)
+fails_so bytes n r failed.NoMemory read fails = tt
+fails_so bytes n r (failed.Because why) read fails = read ∙ ap (λ (s : Result Message FrameError). s >>= λ m. okay (m, 4 + n)) fails
