@@ -1,12 +1,13 @@
-ghost use Rattle.std.specs.Prelude.{◌≡◌, ◌≢◌, ◌↔◌, ◌++◌, [], ◌∷◌, Some, Ok, Err, OnOk, OnErr, IfErr};
+ghost use Rattle.std.specs.Prelude.{◌≡◌, ◌↔◌, ◌++◌, [], ◌∷◌, Some, Ok, Err, OnOk, OnErr};
 ghost use Rattle.std.specs.BTreeMap.{Updates};
 ghost use Rattle.curp_cmd.specs.RequestId.{id_cmp};
 ghost use Rattle.curp_order.specs.Order.{IsHistory};
 ghost use Rattle.curp_order.specs.declared.Event as order;
 ghost use Rattle.curp_check.specs.Claim.{nothing_claimed, with_event, with_line};
 ghost use Rattle.curp_check.specs.Stages.{request_of, stage_after};
+ghost use Rattle.curp_script.specs.declared.error.LineError as script;
 
-use curp_base::NoMemory;
+use curp_base::{Failed, NoMemory};
 use curp_cmd::{Command, RequestId};
 use curp_order::Event;
 use curp_script::{EventLine, FieldName, LineError};
@@ -69,10 +70,10 @@ impl Claim {
 
     /// Adds what a line says. An event behind the order is a bad `ev`, and one with which the events are no history is a
     /// bad `id`. Where it is refused, nothing is changed.
-    pub fn add(&mut self, line: &EventLine) -> Result<(), LineError>
+    pub fn add(&mut self, line: &EventLine) -> Result<(), Failed<LineError>>
         ensures added { OnOk result (with_line self.old line.now ≡ Ok self.new) }
-        ensures refused { IfErr result (λ reason. reason ≢ LineError.NoMemory
-            → with_line self.old line.now ≡ Err reason) }
+        ensures refused { (reason : script.LineError) → result ≡ Err (Failed.Because reason)
+            → with_line self.old line.now ≡ Err reason }
         ensures err { OnErr result (self.new ≡ self.old) }
         ensures bad_id { (e : order.Event) → line.now ≡ EventLine.Event e → self.old.order ≡ []
             → (with_line self.old line.now ≡ Err (LineError.BadField FieldName.Id))
@@ -81,10 +82,8 @@ impl Claim {
         match line {
             EventLine::Event(event) => self.add_event(event),
             EventLine::Place { id, command } => {
-                match self.order.extend_from_slice(&[(*id, *command)]) {
-                    Ok(()) => Ok(()),
-                    Err(NoMemory) => Err(LineError::NoMemory),
-                }
+                self.order.extend_from_slice(&[(*id, *command)])?;
+                Ok(())
             }
         }
     }
@@ -106,28 +105,26 @@ impl Claim {
 }
 
 impl Claim {
-    fn add_event(&mut self, event: &Event) -> Result<(), LineError>
+    fn add_event(&mut self, event: &Event) -> Result<(), Failed<LineError>>
         ensures added { OnOk result (with_event self.old event.now ≡ Ok self.new) }
-        ensures refused { IfErr result (λ reason.
-            reason ≢ LineError.NoMemory → with_event self.old event.now ≡ Err reason) }
+        ensures refused { (reason : script.LineError) → result ≡ Err (Failed.Because reason)
+            → with_event self.old event.now ≡ Err reason }
         ensures err { OnErr result (self.new ≡ self.old) }
         ensures is_history { IsHistory self.old.events }
     {
         if !self.order.is_empty() {
-            return Err(LineError::BadField {
+            return Err(Failed::Because(LineError::BadField {
                 name: FieldName::Ev,
-            });
+            }));
         }
         let id = request_of(event);
         let Some(stage) = stage_after(event, self.stages.get(&id).copied()) else {
-            return Err(LineError::BadField {
+            return Err(Failed::Because(LineError::BadField {
                 name: FieldName::Id,
-            });
+            }));
         };
-        match push_event(&mut self.history, &mut self.stages, event, stage) {
-            Ok(()) => Ok(()),
-            Err(NoMemory) => Err(LineError::NoMemory),
-        }
+        push_event(&mut self.history, &mut self.stages, event, stage)?;
+        Ok(())
     }
 }
 

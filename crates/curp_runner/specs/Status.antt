@@ -1,11 +1,12 @@
 -- How a run ended, and what the program tells of it.
 use Rattle.std.specs.Prelude.{◌≡◌, ◌⊎◌, ℕ, ◌++◌, codes, Bool, true, false, List, Option, Some, None, Result, Ok, Err, ⊤}
 use Rattle.std.specs.Fmt.{decimal}
+use Rattle.curp_base.specs.declared.failed.Failed.{Failed}
+use Rattle.curp_base.specs.declared.failed.Failed.TheVariants as failed
 use Rattle.curp_io.specs.Streams.{Rose}
 use Rattle.curp_check.specs.Claim.{claim_limit}
 use Rattle.curp_check.specs.Verdict.{number_of}
 use Rattle.curp_script.specs.declared.error.LineError.{LineError}
-use Rattle.curp_script.specs.declared.error.LineError.TheVariants.{NoMemory}
 use Rattle.curp_script.specs.Script.{Ending, Whole, Bad, TooLong, TooMany}
 use Rattle.curp_msg.specs.Limits.{step_limit}
 use Rattle.curp_script.specs.Text.{reason_text}
@@ -40,9 +41,9 @@ is_fault status.WriteFault = true
 is_fault _ = false
 
 -- the status of a run that a line ends. Running out of memory says nothing of the line
-abbrev pub refused_at : ℕ → LineError → Status
-refused_at line NoMemory = status.NoMemory
-refused_at line reason = status.BadLine line reason
+abbrev pub refused_at : ℕ → Failed LineError → Status
+refused_at line failed.NoMemory = status.NoMemory
+refused_at line (failed.Because reason) = status.BadLine line reason
 
 -- with no fault of its input and its output, it ends with the status 0, or out of memory
 abbrev pub EndsWhole : Status → (read_before read_after written_before written_after : ℕ) → Type 0

@@ -5,11 +5,13 @@ ghost use Rattle.curp_check.specs.Claim.{ClaimText, Claimed, IsClaimOfOrder, cla
 ghost use Rattle.curp_check.specs.declared.verdict.Clause.{Clause};
 ghost use Rattle.curp_script.specs.Events.{event_in};
 ghost use Rattle.curp_script.specs.Script.{Whole};
+ghost use Rattle.curp_script.specs.declared.error.LineError as script;
 ghost use Rattle.curp_runner.specs.Reading.{IsBehind, IsOfReading, IsOfWriting};
 ghost use Rattle.curp_runner.specs.Status.{ended, is_cut_short};
 ghost use Rattle.curp_runner.specs.Check.{EndsAs, EndsJudged, GivesLineOf, IsBrokenClaim, IsJudgedPrefix, StopsAt, after_line, claim_due, is_verdict, status_of_verdict, verdict_text};
 
 use crate::{Status, close, write};
+use curp_base::Failed;
 use curp_check::{CLAIM_LIMIT, Claim, Verdict, check};
 use curp_io::{Lines, NextLine, Sink, Source};
 use curp_script::{LineError, LineReader};
@@ -184,17 +186,19 @@ fn add_line(
     }
     match add_text(line_reader, text, claim) {
         Ok(()) => Ok(()),
-        Err(reason) => Err(Status::refused_at(count + 1, reason)),
+        Err(failed) => Err(Status::refused_at(count + 1, failed)),
     }
 }
 
-fn add_text(line_reader: &mut LineReader, text: &[u8], claim: &mut Claim) -> Result<(), LineError>
+fn add_text(
+    line_reader: &mut LineReader,
+    text: &[u8],
+    claim: &mut Claim,
+) -> Result<(), Failed<LineError>>
     ensures added { OnOk result (with_read claim.old (event_in text.now) ≡ Ok claim.new) }
-    ensures refused { IfErr result (λ reason.
-        reason ≢ LineError.NoMemory → with_read claim.old (event_in text.now) ≡ Err reason) }
+    ensures refused { (reason : script.LineError) → result ≡ Err (Failed.Because reason)
+        → with_read claim.old (event_in text.now) ≡ Err reason }
 {
-    match line_reader.parse_event(text) {
-        Ok(line) => claim.add(&line),
-        Err(reason) => Err(reason),
-    }
+    let line = line_reader.parse_event(text)?;
+    claim.add(&line)
 }

@@ -1,6 +1,7 @@
 ghost use Rattle.std.specs.Prelude.{◌≡◌, ◌≢◌, ◌+◌, ◌≤◌, ◌++◌, ℕ, [], true, None, Some, List, Ok, Err, Result, OnOk, IfOk, IfErr, IfSome, ⊤};
 ghost use Rattle.curp_io.specs.Streaming.{TellsFault};
 ghost use Rattle.curp_io.specs.Text.{lines_of, nothing_read};
+ghost use Rattle.curp_script.specs.Failing.{Gives};
 ghost use Rattle.curp_script.specs.Grammar.{header_in, step_in};
 ghost use Rattle.curp_script.specs.Headers.{bad_field};
 ghost use Rattle.curp_script.specs.Manage.{HasCall, manage_in};
@@ -11,7 +12,7 @@ ghost use Rattle.curp_runner.specs.Reading.{LeavesLess, ReadsLine, Said, StopsAs
 
 use crate::status::Status;
 use crate::writing::pass_on;
-use curp_base::NoMemory;
+use curp_base::{Failed, NoMemory};
 use curp_io::{Lines, NextLine, Sink, Source};
 use curp_msg::STEP_LIMIT;
 use curp_script::{Header, LineError, LineReader, ManageLine, Step};
@@ -27,8 +28,8 @@ pub trait ScriptLine: Drop {
     ghost IsValid: { Self → Type 0 };
 
     /// Reads a line. `NoMemory` says nothing of it.
-    fn parse(reader: &mut LineReader, line: &[u8]) -> Result<Self, LineError>
-        ensures reads { result ≢ Err LineError.NoMemory → result ≡ meaning line.now }
+    fn parse(reader: &mut LineReader, line: &[u8]) -> Result<Self, Failed<LineError>>
+        ensures reads { Gives (meaning line.now) result }
         ensures valid { IfOk result IsValid };
 }
 
@@ -37,7 +38,7 @@ impl ScriptLine for Step {
 
     ghost IsValid = { λ _. ⊤ };
 
-    fn parse(reader: &mut LineReader, line: &[u8]) -> Result<Step, LineError> {
+    fn parse(reader: &mut LineReader, line: &[u8]) -> Result<Step, Failed<LineError>> {
         reader.parse_line(line)
     }
 }
@@ -47,7 +48,7 @@ impl ScriptLine for ManageLine {
 
     ghost IsValid = { HasCall };
 
-    fn parse(reader: &mut LineReader, line: &[u8]) -> Result<ManageLine, LineError> {
+    fn parse(reader: &mut LineReader, line: &[u8]) -> Result<ManageLine, Failed<LineError>> {
         reader.parse_order(line)
     }
 }
@@ -100,7 +101,10 @@ impl<L: ScriptLine> ScriptReader<L> {
     {
         match self.lines.next_line(source) {
             NextLine::Line => header_of_line(&mut self.line_reader, self.lines.text()),
-            NextLine::End => Err(Status::refused_at(1, LineError::BadJson)),
+            NextLine::End => Err(Status::BadLine {
+                line: 1,
+                reason: LineError::BadJson,
+            }),
             NextLine::ReadFault => Err(Status::ReadFault),
             NextLine::TooLong { at } => Err(Status::LineTooLong { line: at }),
         }
@@ -215,7 +219,7 @@ fn header_of_line(line_reader: &mut LineReader, text: &[u8]) -> Result<Header, S
 {
     match line_reader.parse_header(text) {
         Ok(header) => Ok(header),
-        Err(reason) => Err(Status::refused_at(1, reason)),
+        Err(failed) => Err(Status::refused_at(1, failed)),
     }
 }
 
@@ -235,7 +239,7 @@ fn line_of_text<L: ScriptLine>(
 {
     let line = match L::parse(line_reader, text) {
         Ok(line) => line,
-        Err(reason) => return Err(Status::refused_at(number + 1, reason)),
+        Err(failed) => return Err(Status::refused_at(number + 1, failed)),
     };
     if number > STEP_LIMIT {
         return Err(Status::TooManySteps);

@@ -1,7 +1,7 @@
 ghost use Rattle.std.specs.Prelude.{◌≡◌, option_map};
 ghost use Rattle.curp_runner.specs.Status.{code_of, complaint_of, ended, is_fault, refused_at};
 
-use curp_base::NoMemory;
+use curp_base::{Failed, NoMemory};
 use curp_check::{CLAIM_LIMIT, Clause};
 use curp_msg::STEP_LIMIT;
 use curp_script::LineError;
@@ -68,12 +68,12 @@ impl Status {
     }
 
     /// The status of a run that a line ends.
-    pub fn refused_at(line: u64, reason: LineError) -> Status
-        ensures { result ≡ refused_at line reason }
+    pub fn refused_at(line: u64, failed: Failed<LineError>) -> Status
+        ensures { result ≡ refused_at line failed }
     {
-        match reason {
-            LineError::NoMemory => Status::NoMemory,
-            _ => Status::BadLine { line, reason },
+        match failed {
+            Failed::NoMemory => Status::NoMemory,
+            Failed::Because(reason) => Status::BadLine { line, reason },
         }
     }
 

@@ -2,6 +2,7 @@ pub mod Digits
 pub mod EventKinds
 pub mod EventTexts
 pub mod Events
+pub mod Failing
 pub mod Grammar
 pub mod Headers
 pub mod Kinds
@@ -12,4 +13,5 @@ pub mod Printed
 pub mod Script
 pub mod Text
 pub mod Texts
+mod Unshared
 pub mod Values

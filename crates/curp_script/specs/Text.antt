@@ -3,7 +3,7 @@ use Rattle.std.specs.Prelude.{ℕ, List, ◌++◌, codes}
 use Rattle.curp_script.specs.declared.error.FieldName.{FieldName}
 use Rattle.curp_script.specs.declared.error.FieldName.TheVariants as field
 use Rattle.curp_script.specs.declared.error.LineError.{LineError}
-use Rattle.curp_script.specs.declared.error.LineError.TheVariants.{BadJson, BadField, NoMemory}
+use Rattle.curp_script.specs.declared.error.LineError.TheVariants.{BadJson, BadField}
 
 -- a name, as lines have it
 abbrev pub field_text : FieldName → List ℕ
@@ -41,4 +41,3 @@ field_text field.Witness = codes "witness"
 abbrev pub reason_text : LineError → List ℕ
 reason_text BadJson = codes "bad json"
 reason_text (BadField name) = codes "bad field " ++ field_text name
-reason_text NoMemory = codes "out of memory"

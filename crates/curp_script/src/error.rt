@@ -1,7 +1,6 @@
 ghost use Rattle.std.specs.Prelude.{◌≡◌};
 ghost use Rattle.curp_script.specs.Text.{field_text};
 
-use curp_base::NoMemory;
 use std::error::Error;
 use std::fmt;
 
@@ -12,8 +11,6 @@ pub enum LineError {
     BadJson,
     /// The name is absent, or its value is of another type or out of its range.
     BadField { name: FieldName },
-    /// There was no memory to read it.
-    NoMemory,
 }
 
 /// A name that a line may have. `Other` stands for every name that the line's kind doesn't have.
@@ -99,23 +96,11 @@ impl fmt::Display for LineError {
         match self {
             LineError::BadJson => f.write_str("bad json"),
             LineError::BadField { name } => write!(f, "bad field {name}"),
-            LineError::NoMemory => f.write_str("out of memory"),
         }
     }
 }
 
 impl Error for LineError {}
-
-impl From<NoMemory> for LineError {
-    ghost use Rattle.std.specs.Prelude.{◌≡◌};
-    ghost use Rattle.curp_script.specs.declared.error.LineError.TheVariants as error;
-
-    ghost from_gives = { λ _ e. e ≡ error.NoMemory };
-
-    fn from(_error: NoMemory) -> LineError {
-        LineError::NoMemory
-    }
-}
 
 impl fmt::Display for FieldName {
     ghost use Rattle.std.specs.Prelude.{Some};

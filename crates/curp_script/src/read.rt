@@ -1,6 +1,7 @@
-ghost use Rattle.std.specs.Prelude.{◌≡◌, ◌≢◌, Err, IfOk};
+ghost use Rattle.std.specs.Prelude.{◌≡◌, IfOk};
 ghost use Rattle.curp_script.specs.Values.{value_data};
 ghost use Rattle.curp_script.specs.Events.{event_in};
+ghost use Rattle.curp_script.specs.Failing.{Gives};
 ghost use Rattle.curp_script.specs.Grammar.{header_in, step_in, header_of, protocol_at};
 ghost use Rattle.curp_script.specs.Headers.{bad_field};
 ghost use Rattle.curp_script.specs.Manage.{HasCall, manage_in};
@@ -18,6 +19,7 @@ mod words;
 
 use crate::kind::header_names;
 use crate::{EventLine, FieldName, Header, LineError, ManageLine, Protocol, Step};
+use curp_base::Failed;
 use delivery::printed_delivery;
 use event::event_of;
 use fields::{flag_at, no_other, number_at};
@@ -53,17 +55,17 @@ impl LineReader {
     }
 
     /// The first line of a script as a header, or why it is none. `NoMemory` says nothing of the line.
-    pub fn parse_header(&mut self, line: &[u8]) -> Result<Header, LineError>
-        ensures reads { result ≢ Err LineError.NoMemory → result ≡ header_in line.now }
+    pub fn parse_header(&mut self, line: &[u8]) -> Result<Header, Failed<LineError>>
+        ensures reads { Gives (header_in line.now) result }
         ensures valid { IfOk result (λ header. bad_field header ≡ None) }
     {
         let object = parse_object(self.alloc, &mut self.scratch, line)?;
-        header_of(&object)
+        header_of(&object).map_err(Failed::Because)
     }
 
     /// A later line of a script as a step, or why it is none. `NoMemory` says nothing of the line.
-    pub fn parse_line(&mut self, line: &[u8]) -> Result<Step, LineError>
-        ensures reads { result ≢ Err LineError.NoMemory → result ≡ step_in line.now }
+    pub fn parse_line(&mut self, line: &[u8]) -> Result<Step, Failed<LineError>>
+        ensures reads { Gives (step_in line.now) result }
     {
         if let Some(message) = printed_delivery(line) {
             return Ok(Step::Deliver { message });
@@ -73,20 +75,20 @@ impl LineReader {
     }
 
     /// A line of a history or of an order, or why it is none. `NoMemory` says nothing of the line.
-    pub fn parse_event(&mut self, line: &[u8]) -> Result<EventLine, LineError>
-        ensures reads { result ≢ Err LineError.NoMemory → result ≡ event_in line.now }
+    pub fn parse_event(&mut self, line: &[u8]) -> Result<EventLine, Failed<LineError>>
+        ensures reads { Gives (event_in line.now) result }
     {
         let object = parse_object(self.alloc, &mut self.scratch, line)?;
-        event_of(&object)
+        event_of(&object).map_err(Failed::Because)
     }
 
     /// A line of orders for a manager whose journal is kept, or why it is none. `NoMemory` says nothing of the line.
-    pub fn parse_order(&mut self, line: &[u8]) -> Result<ManageLine, LineError>
-        ensures reads { result ≢ Err LineError.NoMemory → result ≡ manage_in line.now }
+    pub fn parse_order(&mut self, line: &[u8]) -> Result<ManageLine, Failed<LineError>>
+        ensures reads { Gives (manage_in line.now) result }
         ensures call { IfOk result HasCall }
     {
         let object = parse_object(self.alloc, &mut self.scratch, line)?;
-        manage_of(&object)
+        manage_of(&object).map_err(Failed::Because)
     }
 }
 

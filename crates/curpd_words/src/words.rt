@@ -5,6 +5,7 @@ ghost use Rattle.curpd_words.specs.Tasks.{HasHeader};
 use crate::name::node_named;
 use crate::task::{CurpdTask, CurpdWordsError, Seat};
 use clap::{Arg, ArgAction, ArgMatches, Command, value_parser};
+use curp_base::Failed;
 use curp_cmd::NodeKind;
 use curp_script::{LineError, LineReader};
 use std::alloc::{AllocError, Global};
@@ -155,11 +156,11 @@ impl From<AllocError> for CurpdWordsError {
     }
 }
 
-impl From<LineError> for CurpdWordsError {
-    fn from(error: LineError) -> CurpdWordsError {
-        match error {
-            LineError::NoMemory => CurpdWordsError::NoMemory,
-            _ => CurpdWordsError::Header(error),
+impl From<Failed<LineError>> for CurpdWordsError {
+    fn from(failed: Failed<LineError>) -> CurpdWordsError {
+        match failed {
+            Failed::NoMemory => CurpdWordsError::NoMemory,
+            Failed::Because(reason) => CurpdWordsError::Header(reason),
         }
     }
 }

@@ -1,18 +1,15 @@
-ghost use Rattle.std.specs.Prelude.{◌≡◌, ◌≢◌, ◌≤◌, Err, length, take, IfSome, option_map, option_and_then};
+ghost use Rattle.std.specs.Prelude.{◌≡◌, ◌≤◌, length, take, IfSome, option_map, option_and_then};
 ghost use Rattle.curp_script.specs.Digits.{at_most, by_twos};
 ghost use Rattle.curp_script.specs.Values.{value_data, values_data, value_pair};
 ghost use Rattle.curp_script.specs.Grammar.{command_at, command_of, command_by, cond_put_of, multi_put};
-ghost use Rattle.curp_script.specs.declared.error.LineError.{LineError};
 ghost use Rattle.curp_script.specs.Grammar.{key_in, value_in, expected_in, pair_in, key_alone, one_pair};
 
 use super::digits::decode;
 use super::object::{is_null, items_in, text_in, value_at};
 use crate::kind::Verb;
 use crate::{FieldName, LineError};
-use curp_base::Shared;
 use curp_cmd::{Command, Key, Value};
 use json::Value as Json;
-use std::alloc::Global;
 
 const BAD_COMMAND: LineError = LineError::BadField {
     name: FieldName::Cmd,
@@ -24,19 +21,6 @@ pub(crate) fn command_at(object: &Json<'_>) -> Result<Command, LineError>
 {
     let items = value_at(object, FieldName::Cmd).and_then(items_in);
     command_of(items.ok_or(BAD_COMMAND)?)
-}
-
-// The same, so that others may share it. Only this needs memory.
-pub(crate) fn shared_command_at(
-    alloc: Global,
-    object: &Json<'_>,
-) -> Result<Shared<Command>, LineError>
-    ensures { result ≢ Err LineError.NoMemory → result ≡ command_at (value_data object.now) }
-{
-    match command_at(object) {
-        Ok(command) => Ok(Shared::of(alloc, &command)?),
-        Err(error) => Err(error),
-    }
 }
 
 fn command_of(items: &[Json<'_>]) -> Result<Command, LineError>

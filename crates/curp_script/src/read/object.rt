@@ -15,33 +15,36 @@ ghost use Rattle.curp_script.specs.Text.{field_text};
 
 use super::number::{is_number_readable, whole_number};
 use crate::{FieldName, LineError};
+use curp_base::Failed;
 use json::{Error, Reader, Scratch, Value as Json};
 use std::alloc::Global;
 
 // How deep serde_json lets arrays and objects nest.
 const MAX_DEPTH: usize = 127;
 
+const NO_OBJECT: Failed<LineError> = Failed::Because(LineError::BadJson);
+
 pub(crate) fn parse_object<'a>(
     alloc: Global,
     scratch: &'a mut Scratch,
     line: &'a [u8],
-) -> Result<Json<'a>, LineError>
+) -> Result<Json<'a>, Failed<LineError>>
     ensures ok { IfOk result (λ object. object_in line.now ≡ Some (value_data object)) }
-    ensures err { IfErr result (λ reason. reason ≢ LineError.NoMemory
-        → (reason ≡ LineError.BadJson) × (object_in line.now ≡ None)) }
+    ensures err { IfErr result (λ failed. failed ≢ Failed.NoMemory
+        → (failed ≡ Failed.Because LineError.BadJson) × (object_in line.now ≡ None)) }
 {
     let Ok(text) = std::str::from_utf8(line) else {
-        return Err(LineError::BadJson);
+        return Err(NO_OBJECT);
     };
     let value = match parse_text(alloc, scratch, text) {
         Ok(value) => value,
-        Err(Error::OutOfMemory) => return Err(LineError::NoMemory),
-        Err(_) => return Err(LineError::BadJson),
+        Err(Error::OutOfMemory) => return Err(Failed::NoMemory),
+        Err(_) => return Err(NO_OBJECT),
     };
     if is_readable_object(&value) {
         Ok(value)
     } else {
-        Err(LineError::BadJson)
+        Err(NO_OBJECT)
     }
 }
 

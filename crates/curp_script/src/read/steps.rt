@@ -1,33 +1,66 @@
-ghost use Rattle.std.specs.Prelude.{◌≡◌, ◌≢◌, Err};
+ghost use Rattle.std.specs.Prelude.{◌≡◌, IfOk, IfErr};
+ghost use Rattle.curp_script.specs.Failing.{Gives};
 ghost use Rattle.curp_script.specs.Grammar.{step_of, values_of};
 ghost use Rattle.curp_script.specs.Values.{value_data};
-ghost use Rattle.curp_script.specs.declared.error.LineError.{LineError};
+ghost use Rattle.curp_script.specs.Unshared.{step_said, said};
 
-use super::command::shared_command_at;
+use super::command::command_at;
 use super::fields::{hash_at, index_at, keeper_at, kind_at, no_other, node_at, number_at};
 use crate::kind::Kind;
 use crate::{FieldName, LineError, Step};
+use curp_base::{Failed, NoMemory, Shared};
+use curp_cmd::Command;
 use json::Value as Json;
 use std::alloc::Global;
 
-pub(crate) fn step_of(alloc: Global, object: &Json<'_>) -> Result<Step, LineError>
-    ensures { result ≢ Err LineError.NoMemory → result ≡ step_of (value_data object.now) }
+// A step as it is read. The command of an invocation isn't shared yet, which alone needs memory.
+#[derive(Drop)]
+pub(crate) enum Unshared {
+    Invoke { client: u32, command: Command },
+    Other(Step),
+}
+
+impl Unshared {
+    fn share(self, alloc: Global) -> Result<Step, NoMemory>
+        ensures { IfOk result (λ step. step ≡ step_said self) }
+    {
+        Ok(match self {
+            Unshared::Invoke { client, command } => Step::Invoke {
+                client,
+                command: Shared::of(alloc, &command)?,
+            },
+            Unshared::Other(step) => step,
+        })
+    }
+}
+
+pub(crate) fn step_of(alloc: Global, object: &Json<'_>) -> Result<Step, Failed<LineError>>
+    ensures { Gives (step_of (value_data object.now)) result }
+{
+    let unshared = unshared_of(object).map_err(Failed::Because)?;
+    Ok(unshared.share(alloc)?)
+}
+
+fn unshared_of(object: &Json<'_>) -> Result<Unshared, LineError>
+    ensures { said result ≡ step_of (value_data object.now) }
 {
     let kind = kind_at(object)?;
-    let step = values_of(alloc, kind, object)?;
+    let unshared = values_of(kind, object)?;
     no_other(object, kind.names())?;
-    Ok(step)
+    Ok(unshared)
 }
 
 // The step of a kind, by the values of its names, in byte order.
-fn values_of(alloc: Global, kind: Kind, object: &Json<'_>) -> Result<Step, LineError>
-    ensures { result ≢ Err LineError.NoMemory → result ≡ values_of kind (value_data object.now) }
+fn values_of(kind: Kind, object: &Json<'_>) -> Result<Unshared, LineError>
+    ensures { said result ≡ values_of kind (value_data object.now) }
 {
-    Ok(match kind {
-        Kind::Invoke => Step::Invoke {
-            client: index_at(object, FieldName::Client)?,
-            command: shared_command_at(alloc, object)?,
-        },
+    let step = match kind {
+        Kind::Invoke => {
+            return Ok(Unshared::Invoke {
+                client: index_at(object, FieldName::Client)?,
+                command: command_at(object)?,
+            });
+        }
         Kind::Deliver => Step::Deliver {
             message: number_at(object, FieldName::Msg, 0, u64::MAX)?,
         },
@@ -66,5 +99,6 @@ fn values_of(alloc: Global, kind: Kind, object: &Json<'_>) -> Result<Step, LineE
         Kind::Stop => Step::Stop {
             node: node_at(object)?,
         },
-    })
+    };
+    Ok(Unshared::Other(step))
 }
