@@ -2,6 +2,8 @@
 use Rattle.std.proofs.Common.{◌≡◌, ◌≢◌, ◌≤◌, ℕ, false, List, [], ◌∷◌, ◌++◌, Option, Some, None, is_some, Result, Ok, Err, refl, ap, sym, ◌∙◌, subst}
 use Rattle.std.specs.Bool.{⊤}
 use Rattle.std.specs.Option.{option_and_then}
+use Rattle.curp_base.specs.declared.failed.Failed.{Failed}
+use Rattle.curp_base.specs.declared.failed.Failed.TheVariants as failed
 use Rattle.curp_base.specs.Words.{IsPrefix}
 use Rattle.curp_base.proofs.Lists.{Each-append, prefix_self}
 use Rattle.curp_cmd.specs.Store.{NamesKey}
@@ -22,15 +24,15 @@ use Rattle.curp_serve.specs.declared.stepper.Stop.TheVariants as stop
 -- ---- how a command ends
 
 -- its steps are the first ones
-pub prefix_of : (r : Result ⊤ Stop) (new next : Served) → Ended r new next → IsPrefix new.steps next.steps
+pub prefix_of : (r : Result ⊤ (Failed Stop)) (new next : Served) → Ended r new next → IsPrefix new.steps next.steps
 prefix_of (Ok _) new next ended = subst (λ (t : Served). IsPrefix new.steps t.steps) ended.0 (prefix_self new.steps)
-prefix_of (Err stop.TooManySteps) new next ended = subst (λ (t : Served). IsPrefix new.steps t.steps) ended (prefix_self new.steps)
-prefix_of (Err (stop.TooLarge weight)) new next ended = subst (λ (t : Served). IsPrefix new.steps t.steps) ended (prefix_self new.steps)
-prefix_of (Err stop.NoMemory) new next ended = ended
+prefix_of (Err (failed.Because stop.TooManySteps)) new next ended = subst (λ (t : Served). IsPrefix new.steps t.steps) ended (prefix_self new.steps)
+prefix_of (Err (failed.Because (stop.TooLarge weight))) new next ended = subst (λ (t : Served). IsPrefix new.steps t.steps) ended (prefix_self new.steps)
+prefix_of (Err failed.NoMemory) new next ended = ended
 
 -- ---- what it has served
 
-pub none_of : (o : Option Stop) → is_some o ≡ false → o ≡ None
+pub none_of : (o : Option (Failed Stop)) → is_some o ≡ false → o ≡ None
 none_of None e = refl
 none_of (Some why) e = absurd cc
 
@@ -87,12 +89,12 @@ Shows = (f every : ℕ) (commands : List Command) (command : Command) → AreSer
 
 -- what was made is all up to it
 limit_leaves : {X : Type 0} (seen : Served → X) → ((t : Served) (o : Option Limit) → seen (record t { stopped = o }) ≡ seen t)
-    → (why : Stop) (new next : Served) → why ≢ stop.NoMemory → Ended (Err why) new next → seen new ≡ seen next
-limit_leaves seen same stop.TooManySteps new next other ended = sym (same new (Some TooManySteps)) ∙ ap seen ended
-limit_leaves seen same (stop.TooLarge weight) new next other ended = sym (same new (Some (TooLarge weight))) ∙ ap seen ended
-limit_leaves seen same stop.NoMemory new next other ended = absurd (other refl)
+    → (why : Failed Stop) (new next : Served) → why ≢ failed.NoMemory → Ended (Err why) new next → seen new ≡ seen next
+limit_leaves seen same (failed.Because stop.TooManySteps) new next other ended = sym (same new (Some TooManySteps)) ∙ ap seen ended
+limit_leaves seen same (failed.Because (stop.TooLarge weight)) new next other ended = sym (same new (Some (TooLarge weight))) ∙ ap seen ended
+limit_leaves seen same failed.NoMemory new next other ended = absurd (other refl)
 
-pub its_steps : (why : Stop) (new next : Served) → why ≢ stop.NoMemory → Ended (Err why) new next → new.steps ≡ next.steps
+pub its_steps : (why : Failed Stop) (new next : Served) → why ≢ failed.NoMemory → Ended (Err why) new next → new.steps ≡ next.steps
 its_steps = limit_leaves (λ (t : Served). t.steps) (λ t o. refl)
 
 -- running out of memory tells of no answer
@@ -102,8 +104,8 @@ tells_more (error.TooLarge weight o) a e is = cc
 tells_more error.NoMemory a e is = cc
 
 -- so an answer that is told is one that the steps have given
-pub told_of : (why : Stop) (told : ServeError) (new next : Served) (a : Answer) → Ended (Err why) new next
-    → (told ≢ error.NoMemory → answer_in (Err told) ≡ new.answer) → (why ≡ stop.NoMemory → told ≡ error.NoMemory)
+pub told_of : (why : Failed Stop) (told : ServeError) (new next : Served) (a : Answer) → Ended (Err why) new next
+    → (told ≢ error.NoMemory → answer_in (Err told) ≡ new.answer) → (why ≡ failed.NoMemory → told ≡ error.NoMemory)
     → answer_in (Err told) ≡ Some a → next.answer ≡ Some a
 told_of why told new next a ended tells memory e =
     let more = tells_more told a e in
@@ -112,7 +114,7 @@ told_of why told new next a ended tells memory e =
 
 -- ---- a command more
 
-module _ (pushes : Pushes) (header : Header) (every : ℕ) (s : Served) (k : Option Stop) (its : IsServing header every s k) (none : k ≡ None)
+module _ (pushes : Pushes) (header : Header) (every : ℕ) (s : Served) (k : Option (Failed Stop)) (its : IsServing header every s k) (none : k ≡ None)
     (command : Command) (key : NamesKey command) where
   -- what it leads to is the state behind it too
   behind_it : (commands : List Command) → s ≡ after header.f every commands
@@ -121,8 +123,8 @@ module _ (pushes : Pushes) (header : Header) (every : ℕ) (s : Served) (k : Opt
       ap (serve every command) is ∙ sym (pushes header.f every commands command (subst (λ (t : Served). t.stopped ≡ None) is its.free))
 
   -- it goes on serving
-  pub serves_on : (r : Result ⊤ Stop) (new : Served) → Ended r new (serve every command s) → new.stopped ≡ None
-      → (later : Option Stop) → (later ≡ None → new ≡ serve every command s) → IsServing header every new later
+  pub serves_on : (r : Result ⊤ (Failed Stop)) (new : Served) → Ended r new (serve every command s) → new.stopped ≡ None
+      → (later : Option (Failed Stop)) → (later ≡ None → new ≡ serve every command s) → IsServing header every new later
   serves_on r new ended still later whole = record {
     header_is = its.header_is;
     free = still;

@@ -1,6 +1,8 @@
 -- Steps that lead on, one after the other, or stop.
 use Rattle.std.proofs.Common.{◌≡◌, ◌≤◌, ◌<◌, true, false, length, Option, Some, None, Result, Ok, Err, OnOk, ap, sym, ◌∙◌, subst, arith}
 use Rattle.std.specs.Bool.{⊤}
+use Rattle.curp_base.specs.declared.failed.Failed.{Failed}
+use Rattle.curp_base.specs.declared.failed.Failed.TheVariants as failed
 use Rattle.curp_base.specs.Words.{IsPrefix}
 use Rattle.curp_base.proofs.Lists.{prefix_self, prefix_trans}
 use Rattle.curp_msg.specs.declared.script.Step.{Step}
@@ -18,7 +20,7 @@ stands : (t : Served) (next : Served → Served) (why : Limit) → t.stopped ≡
 stands t next why e = ap (λ (o : Option Limit). after_all o t next) e
 
 -- what comes next has led on
-pub led_on : {old mid new : Served} {r : Result ⊤ Stop} (t : Served) (next : Served → Served) → Led (Ok tt) old mid t
+pub led_on : {old mid new : Served} {r : Result ⊤ (Failed Stop)} (t : Served) (next : Served → Served) → Led (Ok tt) old mid t
     → Led r mid new (next mid) → Led r old new (and_then t next)
 led_on {new = new} {r = r} t next first rest = record {
   ended = subst (λ (k : Served). Ended r new k) (ap next first.ended.0 ∙ sym (runs t next first.ended.1)) rest.ended;
@@ -37,22 +39,22 @@ then_grows t next grows = by t.stopped
     by (Some why) = prefix_self t.steps
 
 -- or it has stopped before
-stopped_before : {old new : Served} (why : Stop) (t : Served) (next : Served → Served) → Grows next
+stopped_before : {old new : Served} (why : Failed Stop) (t : Served) (next : Served → Served) → Grows next
     → Led (Err why) old new t → Led (Err why) old new (and_then t next)
 stopped_before {new = new} why t next grows led = record { ended = by why led.ended; grows = led.grows }
   where
-    by : (why : Stop) → Ended (Err why) new t → Ended (Err why) new (and_then t next)
-    by stop.TooManySteps e = e ∙ sym (stands t next _ (sym (ap (λ (k : Served). k.stopped) e)))
-    by (stop.TooLarge weight) e = e ∙ sym (stands t next _ (sym (ap (λ (k : Served). k.stopped) e)))
-    by stop.NoMemory e = prefix_trans e (then_grows t next grows)
+    by : (why : Failed Stop) → Ended (Err why) new t → Ended (Err why) new (and_then t next)
+    by (failed.Because stop.TooManySteps) e = e ∙ sym (stands t next _ (sym (ap (λ (k : Served). k.stopped) e)))
+    by (failed.Because (stop.TooLarge weight)) e = e ∙ sym (stands t next _ (sym (ap (λ (k : Served). k.stopped) e)))
+    by failed.NoMemory e = prefix_trans e (then_grows t next grows)
 
-pub led_stop : {old new : Served} (r : Result ⊤ Stop) (why : Stop) → r ≡ Err why → (t : Served) (next : Served → Served)
+pub led_stop : {old new : Served} (r : Result ⊤ (Failed Stop)) (why : Failed Stop) → r ≡ Err why → (t : Served) (next : Served → Served)
     → Grows next → Led (Err why) old new t → Led r old new (and_then t next)
 led_stop {old = old} {new = new} r why is t next grows led =
-    subst (λ (k : Result ⊤ Stop). Led k old new (and_then t next)) (sym is) (stopped_before why t next grows led)
+    subst (λ (k : Result ⊤ (Failed Stop)). Led k old new (and_then t next)) (sym is) (stopped_before why t next grows led)
 
 -- behind a step and all deliveries there are more steps than commands
-pub longer_on : (made : Step) (s new : Served) (r : Result ⊤ Stop) → s.commands ≤ length s.steps → Led r s new (with_quieting made s)
+pub longer_on : (made : Step) (s new : Served) (r : Result ⊤ (Failed Stop)) → s.commands ≤ length s.steps → Led r s new (with_quieting made s)
     → OnOk r (new.commands < length new.steps)
 longer_on made s new (Err why) few led = tt
 longer_on made s new (Ok _) few led =
@@ -61,8 +63,8 @@ longer_on made s new (Ok _) few led =
     subst (λ (t : Served). t.commands < length t.steps) (sym led.ended.0) (let one = same.commands in omega (arith, few, one, longer))
 
 -- without memory for the first step nothing has changed
-pub led_nowhere : (s next : Served) (r : Result ⊤ Stop) → r ≡ Err stop.NoMemory → IsPrefix s.steps next.steps → Led r s s next
-led_nowhere s next r is prefix = subst (λ (r : Result ⊤ Stop). Led r s s next) (sym is) (record { ended = prefix; grows = prefix_self s.steps })
+pub led_nowhere : (s next : Served) (r : Result ⊤ (Failed Stop)) → r ≡ Err failed.NoMemory → IsPrefix s.steps next.steps → Led r s s next
+led_nowhere s next r is prefix = subst (λ (r : Result ⊤ (Failed Stop)). Led r s s next) (sym is) (record { ended = prefix; grows = prefix_self s.steps })
 
 -- ---- deliveries
 
@@ -79,7 +81,7 @@ pub led_more : (old mid new : Served) → quiets mid ≡ quiets old → is_busy 
 led_more old mid new same busy few led = ap quiets led.ended.0 ∙ quiets_on mid busy few led.ended.1 ∙ same
 
 -- the next one has stopped it
-pub led_last : (old mid new : Served) (r : Result ⊤ Stop) (why : Stop) → r ≡ Err why → quiets mid ≡ quiets old
+pub led_last : (old mid new : Served) (r : Result ⊤ (Failed Stop)) (why : Failed Stop) → r ≡ Err why → quiets mid ≡ quiets old
     → IsPrefix old.steps mid.steps → is_busy mid ≡ true → Led (Err why) mid new (delivers mid) → Led r old new (quiets old)
 led_last old mid new r why is same grows busy led =
     let all = led_stop r why is (delivers mid) (quiets_in most_steps) (λ u. (quiets_in_goes most_steps u).steps) led in

@@ -1,5 +1,7 @@
 -- How steps end that are to lead from one state to another.
 use Rattle.std.specs.Prelude.{◌≡◌, ◌≤◌, ℕ, List, length, Option, Some, None, Result, Ok, Err, ⊤}
+use Rattle.curp_base.specs.declared.failed.Failed.{Failed}
+use Rattle.curp_base.specs.declared.failed.Failed.TheVariants as failed
 use Rattle.curp_base.specs.Words.{IsPrefix}
 use Rattle.curp_cmd.specs.declared.command.Answer.{Answer}
 use Rattle.curp_msg.specs.declared.script.Step.{Step}
@@ -9,21 +11,21 @@ use Rattle.curp_serve.specs.declared.stepper.Stop.{Stop}
 use Rattle.curp_serve.specs.declared.stepper.Stop.TheVariants as stop
 
 -- the limit that stops them, unless it is running out of memory
-abbrev pub limit_of : Stop → Option Limit
-limit_of stop.TooManySteps = Some TooManySteps
-limit_of (stop.TooLarge weight) = Some (TooLarge weight)
-limit_of stop.NoMemory = None
+abbrev pub limit_of : Failed Stop → Option Limit
+limit_of (failed.Because stop.TooManySteps) = Some TooManySteps
+limit_of (failed.Because (stop.TooLarge weight)) = Some (TooLarge weight)
+limit_of failed.NoMemory = None
 
 -- they were to lead to `next` and have led to `new`: to all of it, or to where a limit stopped them; where memory
 -- wanted, no other steps were made
-abbrev pub Ended : Result ⊤ Stop → Served → Served → Type 0
+abbrev pub Ended : Result ⊤ (Failed Stop) → Served → Served → Type 0
 Ended (Ok _) new next = (new ≡ next) × (next.stopped ≡ None)
-Ended (Err stop.TooManySteps) new next = record new { stopped = Some TooManySteps } ≡ next
-Ended (Err (stop.TooLarge weight)) new next = record new { stopped = Some (TooLarge weight) } ≡ next
-Ended (Err stop.NoMemory) new next = IsPrefix new.steps next.steps
+Ended (Err (failed.Because stop.TooManySteps)) new next = record new { stopped = Some TooManySteps } ≡ next
+Ended (Err (failed.Because (stop.TooLarge weight))) new next = record new { stopped = Some (TooLarge weight) } ≡ next
+Ended (Err failed.NoMemory) new next = IsPrefix new.steps next.steps
 
 -- so have they ended, and none of the steps before them is gone
-pub record Led (result : Result ⊤ Stop) (old new next : Served) : Type 0 where
+pub record Led (result : Result ⊤ (Failed Stop)) (old new next : Served) : Type 0 where
   pub ended : Ended result new next
   pub grows : IsPrefix old.steps new.steps
 

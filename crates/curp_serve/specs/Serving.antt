@@ -1,6 +1,7 @@
 -- A cluster that serves commands, and how a call for a command ends.
 use Rattle.std.specs.Prelude.{◌≡◌, ℕ, List, Bool, false, Option, Some, None, Result, Ok, Err, is_some}
 use Rattle.std.specs.Option.{option_and_then}
+use Rattle.curp_base.specs.declared.failed.Failed.{Failed}
 use Rattle.curp_base.specs.Words.{IsPrefix}
 use Rattle.curp_cmd.specs.declared.command.Answer.{Answer}
 use Rattle.curp_cmd.specs.declared.command.Command.{Command}
@@ -54,7 +55,7 @@ answer_in (Err error.NoMemory) = None
 -- ---- what it keeps
 
 -- what is seen of the header, the number of commands, the state and why it stopped
-abbrev pub serving : Header → ℕ → Served → Option Stop → Serving
+abbrev pub serving : Header → ℕ → Served → Option (Failed Stop) → Serving
 serving header every state stop = record {
   f = header.f;
   every = every;
@@ -63,7 +64,7 @@ serving header every state stop = record {
 }
 
 -- its steps are the first ones for some commands, and all of them unless it has stopped
-pub record IsServing (header : Header) (every : ℕ) (state : Served) (stop : Option Stop) : Type 0 where
+pub record IsServing (header : Header) (every : ℕ) (state : Served) (stop : Option (Failed Stop)) : Type 0 where
   pub header_is : header ≡ header_of header.f
   pub free : state.stopped ≡ None
   pub commands : List Command

@@ -12,7 +12,7 @@ ghost use Rattle.curp_serve.specs.Ended.{limit_of};
 ghost use Rattle.curp_serve.specs.Serving.{LedBy, answer_in, begins, limit_in, next};
 
 use crate::stepper::{Stepper, Stop};
-use curp_base::NoMemory;
+use curp_base::{Failed, NoMemory};
 use curp_cmd::laws::names_one_to_four_keys;
 use curp_cmd::{Answer, Command};
 use curp_msg::{Header, Protocol, Step};
@@ -40,7 +40,7 @@ pub struct Served {
     every: u64,
     stepper: Stepper,
     // Why it serves no command any more.
-    stop: Option<Stop>,
+    stop: Option<Failed<Stop>>,
 }
 
 impl Drop for Served {
@@ -167,14 +167,14 @@ impl Served {
 }
 
 // What a stop is to a caller, and what is known of the answer by then.
-fn refusal(stop: Stop, answer: Option<Answer>) -> ServeError
+fn refusal(stop: Failed<Stop>, answer: Option<Answer>) -> ServeError
     ensures limit { limit_in (Err result) ≡ limit_of stop }
     ensures answer { result ≢ ServeError.NoMemory → answer_in (Err result) ≡ answer }
-    ensures no_memory { (result ≡ ServeError.NoMemory) ↔ (stop ≡ Stop.NoMemory) }
+    ensures no_memory { (result ≡ ServeError.NoMemory) ↔ (stop ≡ Failed.NoMemory) }
 {
     match stop {
-        Stop::TooManySteps => ServeError::TooManySteps { answer },
-        Stop::TooLarge { weight } => ServeError::TooLarge { weight, answer },
-        Stop::NoMemory => ServeError::NoMemory,
+        Failed::NoMemory => ServeError::NoMemory,
+        Failed::Because(Stop::TooManySteps) => ServeError::TooManySteps { answer },
+        Failed::Because(Stop::TooLarge { weight }) => ServeError::TooLarge { weight, answer },
     }
 }

@@ -5,7 +5,7 @@ ghost use Rattle.curp_model.specs.World.{opening};
 ghost use Rattle.curp_msg.specs.Script.{IsHeader};
 ghost use Rattle.curp_serve.specs.Ended.{Led, going};
 
-use curp_base::{NoMemory, Shared};
+use curp_base::{Failed, NoMemory, Shared};
 use curp_cluster::Cluster;
 use curp_cmd::{Answer, Command, NodeId};
 use curp_msg::{Header, STEP_LIMIT, Step, StepResult};
@@ -21,7 +21,6 @@ pub(crate) enum Stop {
     TooManySteps,
     /// All messages weigh too much: this much.
     TooLarge { weight: u64 },
-    NoMemory,
 }
 
 /// A cluster, and the steps that it has made.
@@ -80,7 +79,7 @@ impl Stepper {
 
     /// Makes the steps of a command. Between two recoveries lie `every` commands; there is none where that is 0.
     #[tactic(auto, unfolding(curp_law_served::specs::Served::serve))]
-    pub(crate) fn serve(&mut self, every: u64, command: &Command) -> Result<(), Stop>
+    pub(crate) fn serve(&mut self, every: u64, command: &Command) -> Result<(), Failed<Stop>>
         ensures { Led result self.old self.new (served.serve every command.now self.old) }
     {
         self.ask(command)?;
@@ -89,7 +88,7 @@ impl Stepper {
     }
 
     // The command is invoked, and every message is delivered.
-    fn ask(&mut self, command: &Command) -> Result<(), Stop>
+    fn ask(&mut self, command: &Command) -> Result<(), Failed<Stop>>
         ensures led { Led result self.old self.new
             (served.with_quieting (Step.Invoke 1 command.now) (record self.old { answer = None })) }
         ensures longer { OnOk result (self.new.commands < length self.new.steps) }
@@ -100,7 +99,7 @@ impl Stepper {
     }
 
     // The command is counted. After every sixteenth the cluster is tidied.
-    fn count(&mut self) -> Result<(), Stop>
+    fn count(&mut self) -> Result<(), Failed<Stop>>
         requires { self.old.commands < length self.old.steps }
         ensures { Led result self.old self.new
             (if_turn (is_turn 16 (self.old.commands + 1)) served.tidies
@@ -114,7 +113,7 @@ impl Stepper {
     }
 
     // After each of so many commands the partition is recovered.
-    fn recover_in_turn(&mut self, every: u64) -> Result<(), Stop>
+    fn recover_in_turn(&mut self, every: u64) -> Result<(), Failed<Stop>>
         ensures { Led result self.old self.new
             (if_turn (is_turn every self.old.commands) served.replaces_master self.old) }
     {
@@ -125,7 +124,7 @@ impl Stepper {
     }
 
     // The newest master sends its backups what they lack, and then tells its witnesses what they may drop.
-    fn tidy(&mut self) -> Result<(), Stop>
+    fn tidy(&mut self) -> Result<(), Failed<Stop>>
         ensures { Led result self.old self.new (served.tidies self.old) }
     {
         let master = self.newest();
@@ -135,7 +134,7 @@ impl Stepper {
     }
 
     // The newest master is stopped, another one recovers its partition, and the client asks for the configuration.
-    fn replace_master(&mut self) -> Result<(), Stop>
+    fn replace_master(&mut self) -> Result<(), Failed<Stop>>
         ensures { Led result self.old self.new (served.replaces_master self.old) }
     {
         let node = NodeId::master(self.newest());
@@ -159,7 +158,7 @@ impl Stepper {
     }
 
     // Makes a step, and every message is delivered.
-    fn make_quieted(&mut self, step: Step) -> Result<(), Stop>
+    fn make_quieted(&mut self, step: Step) -> Result<(), Failed<Stop>>
         ensures { Led result self.old self.new (served.with_quieting step self.old) }
     {
         self.make(step)?;
@@ -167,7 +166,7 @@ impl Stepper {
     }
 
     // Every message that wasn't delivered comes to its addressee, in rising number, until none is left.
-    fn quiet(&mut self) -> Result<(), Stop>
+    fn quiet(&mut self) -> Result<(), Failed<Stop>>
         ensures { Led result self.old self.new (served.quiets self.old) }
     {
         'messages: while self.is_busy() {
@@ -185,7 +184,7 @@ impl Stepper {
         self.delivered < self.cluster.message_count()
     }
 
-    fn deliver_next(&mut self) -> Result<(), Stop>
+    fn deliver_next(&mut self) -> Result<(), Failed<Stop>>
         ensures { Led result self.old self.new (served.delivers self.old) }
     {
         let message = self.delivered + 1;
@@ -195,17 +194,17 @@ impl Stepper {
     }
 
     // Makes a step, unless it would be one too many or all messages weigh too much.
-    fn make(&mut self, step: Step) -> Result<(), Stop>
+    fn make(&mut self, step: Step) -> Result<(), Failed<Stop>>
         ensures { Led result self.old self.new (served.makes step self.old) }
     {
         if self.steps.len() as u64 == STEP_LIMIT {
-            return Err(Stop::TooManySteps);
+            return Err(Failed::Because(Stop::TooManySteps));
         }
         curp_law_steps::only_the_named_node_moves();
         self.steps.reserve(1)?;
         let outcome = self.cluster.step(&step)?;
         if let StepResult::Full { weight } = outcome.result {
-            return Err(Stop::TooLarge { weight });
+            return Err(Failed::Because(Stop::TooLarge { weight }));
         }
         push(&mut self.steps, step);
         if let Some(completed) = outcome.completed {
@@ -231,15 +230,4 @@ fn is_turn(every: u64, commands: u64) -> bool
     ensures { result ≡ is_turn every commands }
 {
     every != 0 && commands % every == 0
-}
-
-impl From<NoMemory> for Stop {
-    ghost use Rattle.std.specs.Prelude.{◌≡◌};
-    ghost use Rattle.curp_serve.specs.declared.stepper.Stop.TheVariants as stop;
-
-    ghost from_gives = { λ _ s. s ≡ stop.NoMemory };
-
-    fn from(_error: NoMemory) -> Stop {
-        Stop::NoMemory
-    }
 }
