@@ -11,6 +11,8 @@
 //!   machine by the one word `Moves`, and out of memory the node is as before. An order that is refused needs no memory.
 //!   Its laws: a refusal's number is below 255, a refused order changes, sends, invokes and completes nothing, and a
 //!   message is never refused. A message has at most 80 bytes, beside its boxes.
+//! - `told`: what a node tells of an order that a call of its own makes, exact (`specs/Told.antt`): a refusal by the number
+//!   of its reason, which is `Numbered`.
 #![tactic(auto)]
 
 mod answer;
@@ -20,6 +22,7 @@ mod limits;
 mod machine;
 mod message;
 mod outcome;
+mod refusing;
 mod script;
 mod text;
 mod weighing;
@@ -35,5 +38,6 @@ pub use limits::{STEP_LIMIT, WEIGHT_LIMIT};
 pub use machine::{Capture, Completed, Core, Done, Input, Local};
 pub use message::Message;
 pub use outcome::{Outcome, StepResult};
+pub use refusing::{Numbered, told};
 pub use script::{Header, Protocol, Step};
 pub use weighing::weight;
