@@ -66,7 +66,7 @@ impl WitnessNode {
     ) -> Result<WitnessNode, Failed<BadShape>>
         ensures number { IfOk result (λ w. w.number ≡ number) }
         ensures state { IfOk result (λ w. w.state ≡ started_witness sets ways epoch) }
-        ensures bad_shape { (result ≡ Err (failed.Because BadShape))
+        ensures bad_shape { (result ≡ Err (failed.Because (record {})))
             ↔ ((sets < 1) ⊎ ((1024 < sets) ⊎ ((ways < 1) ⊎ (16 < ways)))) }
     {
         let witness = Witness::started(alloc, sets, ways, epoch)?;

@@ -72,7 +72,7 @@ impl Witness {
         epoch: u32,
     ) -> Result<Witness, Failed<BadShape>>
         ensures ok { IfOk result (λ witness. witness ≡ started_witness sets ways epoch) }
-        ensures bad_shape { (result ≡ Err (failed.Because BadShape))
+        ensures bad_shape { (result ≡ Err (failed.Because (record {})))
             ↔ ((sets < 1) ⊎ ((1024 < sets) ⊎ ((ways < 1) ⊎ (16 < ways)))) }
     {
         check_shape(sets, ways).map_err(Failed::Because)?;
