@@ -3,9 +3,10 @@ ghost use Rattle.std.specs.Option.{option_copied, option_map};
 ghost use Rattle.curp_base.specs.Words.{last_of};
 ghost use Rattle.curp_model.specs.Client as model;
 ghost use Rattle.curp_msg.specs.Moved.{Makes, Moves, numbered_move, quiet};
+ghost use Rattle.curp_msg.specs.Told.{Tells};
 ghost use Rattle.curp_client.specs.Evidence.{completes_if, concluded, kept};
 ghost use Rattle.curp_client.specs.Requests.{asks_once, least_of};
-ghost use Rattle.curp_client.specs.Refusals.{TellsInvoke, TellsRefusal, TellsRetry, invoke_number};
+ghost use Rattle.curp_client.specs.Refusals.{invoke_number, retry_number};
 
 use crate::evidence::{Accept, Early, Evidence, Glimpse, KnownMaster};
 use crate::owner::owner_of;
@@ -13,13 +14,13 @@ use crate::pending::{Attempt, Pending};
 use crate::requests::Requests;
 use crate::sending::sent_by;
 use crate::{InvokeError, RetryError};
-use curp_base::{NoMemory, Shared};
+use curp_base::{Failed, NoMemory, Shared};
 use curp_cmd::{Command, NodeId, Request, RequestId};
 use curp_msg::{
     Accepted, Body, Capture, Completed, Config, Core, Done, Local, Message, PartConfig, Probed,
-    Protocol, Quick, Reply, Worth,
+    Protocol, Quick, Reply, Worth, told,
 };
-use std::alloc::{AllocError, Global};
+use std::alloc::Global;
 use std::marker::Model;
 
 /// How many requests may be pending.
@@ -125,12 +126,12 @@ impl Client {
 
     /// Invokes a command.
     #[tactic(auto, using(crate::proofs::Orders::invoking))]
-    pub fn invoke(&mut self, command: &Command) -> Result<Done, InvokeError>
+    pub fn invoke(&mut self, command: &Command) -> Result<Done, Failed<InvokeError>>
         ensures moves { Moves self.old self.new result
             (numbered_move self.old.number (model.invoke self.old.number self.old.state command.now)) }
-        ensures refused { TellsInvoke (model.invoke self.old.number self.old.state command.now).refused result }
+        ensures refused { Tells invoke_number (model.invoke self.old.number self.old.state command.now).refused result }
     {
-        let part = self.part_for(command)?;
+        let part = self.part_for(command).map_err(Failed::Because)?;
         let request = self.next_request(command);
         let shared = Shared::of(self.alloc, &request)?;
         let messages = sent_by(
@@ -150,21 +151,21 @@ impl Client {
 
     /// Sends a pending request again, by its number.
     #[tactic(auto, using(crate::proofs::Orders::retry_nowhere))]
-    pub fn retry(&mut self, seq: u32) -> Result<Done, RetryError>
+    pub fn retry(&mut self, seq: u32) -> Result<Done, Failed<RetryError>>
         ensures moves { Moves self.old self.new result
             (numbered_move self.old.number (model.retry self.old.number self.old.state seq)) }
-        ensures refused { TellsRetry (model.retry self.old.number self.old.state seq).refused result }
+        ensures refused { Tells retry_number (model.retry self.old.number self.old.state seq).refused result }
     {
         let id = RequestId {
             client: self.number,
             seq,
         };
         let Some(pending) = self.pending.find(&id) else {
-            return Err(RetryError::NotPending);
+            return Err(Failed::Because(RetryError::NotPending));
         };
         let request = pending.request();
         let Some(part) = owner_of(&self.config, &request.command) else {
-            return Err(RetryError::Split);
+            return Err(Failed::Because(RetryError::Split));
         };
         let messages = sent_by(
             self.alloc,
@@ -266,10 +267,7 @@ impl Client {
             (numbered_move self.old.number (model.invoke self.old.number self.old.state command.now)) }
         ensures refused { (model.invoke self.old.number self.old.state command.now).refused ≢ 0 → IsOk result }
     {
-        match self.invoke(command) {
-            Ok(done) => Ok(done),
-            Err(error) => told(self.alloc, error.number()),
-        }
+        told(self.alloc, self.invoke(command))
     }
 
     // Sends a pending request again, and tells a refusal by its number.
@@ -278,10 +276,7 @@ impl Client {
             (numbered_move self.old.number (model.retry self.old.number self.old.state seq)) }
         ensures refused { (model.retry self.old.number self.old.state seq).refused ≢ 0 → IsOk result }
     {
-        match self.retry(seq) {
-            Ok(done) => Ok(done),
-            Err(error) => told(self.alloc, error.number()),
-        }
+        told(self.alloc, self.retry(seq))
     }
 
     // ---- messages
@@ -470,14 +465,4 @@ impl Client {
         self.pending.remove(&completed.id);
         Done::completes(self.alloc, completed)
     }
-}
-
-// What is told of an order that wasn't made: the number of its refusal, else out of memory.
-fn told(alloc: Global, refusal: u8) -> Result<Done, NoMemory>
-    ensures { TellsRefusal refusal result }
-{
-    if refusal == 0 {
-        return Err(AllocError);
-    }
-    Ok(Done::refuses(alloc, refusal))
 }

@@ -1,9 +1,8 @@
 //! A client as a node: its requests until they complete, and what was delivered for each of them.
 //!
 //! `Client` is a `Core`: its machine is in `specs/Machine.antt`, and is the definition of a client whole. `invoke`, `retry`
-//! and `fetch` are its orders as calls: exact, by `Moves`, over that definition. Each error but running out of memory comes
-//! exactly where the definition refuses by that number, so a call that is refused wants no memory; after an error nothing
-//! has changed. `new`, as at opening, and what tells of its requests (`last`, `pending`, `least_pending`, `newest`): exact.
+//! and `fetch` are its orders as calls: exact, by `Moves`, over that definition. Each reason comes exactly where the
+//! definition refuses by its number, so a call that is refused wants no memory; after an error nothing has changed. `new`, as at opening, and what tells of its requests (`last`, `pending`, `least_pending`, `newest`): exact.
 //! That no pending number is past the last one is a clause.
 #![tactic(auto)]
 

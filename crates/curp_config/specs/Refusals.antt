@@ -1,73 +1,62 @@
 -- The numbers by which the manager's orders are refused, and what each refusal tells beside.
-use Rattle.std.specs.Prelude.{◌≡◌, ◌≢◌, ℕ, [], Option, Some, None, Result, Ok, Err, ⊤}
-use Rattle.std.specs.declared.alloc.AllocError.{AllocError}
-use Rattle.curp_msg.specs.declared.machine.Done.{Done}
+use Rattle.std.proofs.Common.{arith}
+use Rattle.std.specs.Prelude.{◌≡◌, ◌≢◌, ℕ, Option, Some, None, ⊤}
 use Rattle.curp_model.specs.Manager as model
+use Rattle.curp_config.specs.declared.error.NoClient.{NoClient}
 use Rattle.curp_config.specs.declared.error.RecoverError.{RecoverError}
 use Rattle.curp_config.specs.declared.error.RecoverError.TheVariants as recover
 use Rattle.curp_config.specs.declared.error.ReplaceError.{ReplaceError}
 use Rattle.curp_config.specs.declared.error.ReplaceError.TheVariants as replace
 use Rattle.curp_config.specs.declared.error.MigrateError.{MigrateError}
 use Rattle.curp_config.specs.declared.error.MigrateError.TheVariants as migrate
-use Rattle.curp_config.specs.declared.error.ExpireError.{ExpireError}
-use Rattle.curp_config.specs.declared.error.ExpireError.TheVariants as expire
 
--- ---- the numbers; running out of memory is no refusal
+-- ---- the numbers, of which none is 0
 
--- the number of each cause for which nothing is recovered
+-- the number of each reason for which nothing is recovered
 abbrev pub recover_number : RecoverError → ℕ
 recover_number recover.NoPart = 1
 recover_number (recover.NoBackup place) = 2
 recover_number (recover.NoWitness place) = 3
-recover_number recover.NoMemory = 0
 
--- the number of each cause for which nothing is replaced
+pub recover_numbers_refuse : (why : RecoverError) → recover_number why ≢ 0
+recover_numbers_refuse recover.NoPart = omega arith
+recover_numbers_refuse (recover.NoBackup place) = omega arith
+recover_numbers_refuse (recover.NoWitness place) = omega arith
+
+-- the number of each reason for which nothing is replaced
 abbrev pub replace_number : ReplaceError → ℕ
 replace_number replace.NoPart = 1
 replace_number replace.NoPlace = 2
 replace_number (replace.Recovering epoch) = 3
 replace_number (replace.Replacing version) = 4
-replace_number replace.NoMemory = 0
 
--- the number of each cause for which nothing moves
+pub replace_numbers_refuse : (why : ReplaceError) → replace_number why ≢ 0
+replace_numbers_refuse replace.NoPart = omega arith
+replace_numbers_refuse replace.NoPlace = omega arith
+replace_numbers_refuse (replace.Recovering epoch) = omega arith
+replace_numbers_refuse (replace.Replacing version) = omega arith
+
+-- the number of each reason for which nothing moves
 abbrev pub migrate_number : MigrateError → ℕ
 migrate_number migrate.BadRange = 1
 migrate_number migrate.NoPart = 2
 migrate_number migrate.SameOwner = 3
 migrate_number migrate.SplitOwner = 4
 migrate_number (migrate.Moving id) = 5
-migrate_number migrate.NoMemory = 0
 
--- the number of each cause for which no client is gone
-abbrev pub expire_number : ExpireError → ℕ
-expire_number expire.NoClient = 1
-expire_number expire.NoMemory = 0
+pub migrate_numbers_refuse : (why : MigrateError) → migrate_number why ≢ 0
+migrate_numbers_refuse migrate.BadRange = omega arith
+migrate_numbers_refuse migrate.NoPart = omega arith
+migrate_numbers_refuse migrate.SameOwner = omega arith
+migrate_numbers_refuse migrate.SplitOwner = omega arith
+migrate_numbers_refuse (migrate.Moving id) = omega arith
 
--- ---- a call tells by its error the number of the refusal, so that only an order which isn't refused needs memory
+-- the number of the reason for which no client is gone
+abbrev pub expire_number : NoClient → ℕ
+expire_number no_client = 1
 
-abbrev pub TellsRecover : {A : Type 0} → ℕ → Result A RecoverError → Type 0
-TellsRecover refused (Ok done) = refused ≡ 0
-TellsRecover refused (Err why) = refused ≡ recover_number why
-
--- the same of a replacement
-abbrev pub TellsReplace : {A : Type 0} → ℕ → Result A ReplaceError → Type 0
-TellsReplace refused (Ok done) = refused ≡ 0
-TellsReplace refused (Err why) = refused ≡ replace_number why
-
--- the same of a migration
-abbrev pub TellsMigrate : {A : Type 0} → ℕ → Result A MigrateError → Type 0
-TellsMigrate refused (Ok done) = refused ≡ 0
-TellsMigrate refused (Err why) = refused ≡ migrate_number why
-
--- the same of a client that is gone
-abbrev pub TellsExpire : {A : Type 0} → ℕ → Result A ExpireError → Type 0
-TellsExpire refused (Ok done) = refused ≡ 0
-TellsExpire refused (Err why) = refused ≡ expire_number why
-
--- a refusal is told by its number, which isn't 0; without one, memory was wanting
-abbrev pub TellsRefusal : ℕ → Result Done AllocError → Type 0
-TellsRefusal refusal (Ok done) = (refusal ≢ 0) × (done ≡ record { refused = refusal; sent = []; invoked = None; completed = None })
-TellsRefusal refusal (Err no_memory) = refusal ≡ 0
+pub expire_numbers_refuse : (why : NoClient) → expire_number why ≢ 0
+expire_numbers_refuse no_client = omega arith
 
 -- ---- what a refusal tells beside its number
 

@@ -1,7 +1,4 @@
-ghost use Rattle.std.specs.Prelude.{◌≡◌};
-ghost use Rattle.curp_config.specs.Refusals.{expire_number, migrate_number, recover_number, replace_number};
-
-use curp_base::NoMemory;
+use curp_msg::Numbered;
 use thiserror::Error;
 
 /// Why the manager orders no recovery.
@@ -16,9 +13,6 @@ pub enum RecoverError {
     /// The partition's adopted list has no witness at that place, counted from 1.
     #[error("the partition has no witness at place {place}")]
     NoWitness { place: u32 },
-    /// There was no memory for the order or its messages.
-    #[error("out of memory")]
-    NoMemory,
 }
 
 /// Why the manager orders no replacement.
@@ -36,9 +30,6 @@ pub enum ReplaceError {
     /// The partition is being given lists of that version.
     #[error("the partition is being given lists of version {version}")]
     Replacing { version: u32 },
-    /// There was no memory for the new lists or the messages.
-    #[error("out of memory")]
-    NoMemory,
 }
 
 /// Why the manager lets no range move.
@@ -59,119 +50,72 @@ pub enum MigrateError {
     /// The migration of that number isn't finished.
     #[error("migration {id} isn't finished")]
     Moving { id: u32 },
-    /// There was no memory for the message.
-    #[error("out of memory")]
-    NoMemory,
 }
 
-/// Why the manager declares no client gone.
+/// The manager declares no client gone: there is no client of that number.
 #[derive(Clone, Copy, Debug, PartialEq, Eq, Error)]
-pub enum ExpireError {
-    /// There is no client of that number.
-    #[error("there is no such client")]
-    NoClient,
-    /// There was no memory for the client's number or the messages.
-    #[error("out of memory")]
-    NoMemory,
-}
+#[error("there is no such client")]
+pub struct NoClient;
 
-impl RecoverError {
-    /// The number by which a step tells the refusal, and 0 out of memory, which is none.
-    pub fn number(self) -> u8
-        ensures { result ≡ recover_number self }
-    {
+impl Numbered for RecoverError {
+    ghost use Rattle.curp_config.specs.Refusals.{recover_number, recover_numbers_refuse};
+
+    ghost number_of = { recover_number };
+
+    ghost numbers_refuse = { recover_numbers_refuse };
+
+    fn number(self) -> u8 {
         match self {
             RecoverError::NoPart => 1,
             RecoverError::NoBackup { .. } => 2,
             RecoverError::NoWitness { .. } => 3,
-            RecoverError::NoMemory => 0,
         }
     }
 }
 
-impl ReplaceError {
-    /// The number by which a step tells the refusal, and 0 out of memory, which is none.
-    pub fn number(self) -> u8
-        ensures { result ≡ replace_number self }
-    {
+impl Numbered for ReplaceError {
+    ghost use Rattle.curp_config.specs.Refusals.{replace_number, replace_numbers_refuse};
+
+    ghost number_of = { replace_number };
+
+    ghost numbers_refuse = { replace_numbers_refuse };
+
+    fn number(self) -> u8 {
         match self {
             ReplaceError::NoPart => 1,
             ReplaceError::NoPlace => 2,
             ReplaceError::Recovering { .. } => 3,
             ReplaceError::Replacing { .. } => 4,
-            ReplaceError::NoMemory => 0,
         }
     }
 }
 
-impl MigrateError {
-    /// The number by which a step tells the refusal, and 0 out of memory, which is none.
-    pub fn number(self) -> u8
-        ensures { result ≡ migrate_number self }
-    {
+impl Numbered for MigrateError {
+    ghost use Rattle.curp_config.specs.Refusals.{migrate_number, migrate_numbers_refuse};
+
+    ghost number_of = { migrate_number };
+
+    ghost numbers_refuse = { migrate_numbers_refuse };
+
+    fn number(self) -> u8 {
         match self {
             MigrateError::BadRange => 1,
             MigrateError::NoPart => 2,
             MigrateError::SameOwner => 3,
             MigrateError::SplitOwner => 4,
             MigrateError::Moving { .. } => 5,
-            MigrateError::NoMemory => 0,
         }
     }
 }
 
-impl ExpireError {
-    /// The number by which a step tells the refusal, and 0 out of memory, which is none.
-    pub fn number(self) -> u8
-        ensures { result ≡ expire_number self }
-    {
-        match self {
-            ExpireError::NoClient => 1,
-            ExpireError::NoMemory => 0,
-        }
-    }
-}
+impl Numbered for NoClient {
+    ghost use Rattle.curp_config.specs.Refusals.{expire_number, expire_numbers_refuse};
 
-impl From<NoMemory> for RecoverError {
-    ghost use Rattle.std.specs.Prelude.{◌≡◌};
-    ghost use Rattle.curp_config.specs.declared.error.RecoverError.TheVariants.{NoMemory};
+    ghost number_of = { expire_number };
 
-    ghost from_gives = { λ _ error. error ≡ NoMemory };
+    ghost numbers_refuse = { expire_numbers_refuse };
 
-    fn from(_no_memory: NoMemory) -> RecoverError {
-        RecoverError::NoMemory
-    }
-}
-
-impl From<NoMemory> for ReplaceError {
-    ghost use Rattle.std.specs.Prelude.{◌≡◌};
-    ghost use Rattle.curp_config.specs.declared.error.ReplaceError.TheVariants.{NoMemory};
-
-    ghost from_gives = { λ _ error. error ≡ NoMemory };
-
-    fn from(_no_memory: NoMemory) -> ReplaceError {
-        ReplaceError::NoMemory
-    }
-}
-
-impl From<NoMemory> for MigrateError {
-    ghost use Rattle.std.specs.Prelude.{◌≡◌};
-    ghost use Rattle.curp_config.specs.declared.error.MigrateError.TheVariants.{NoMemory};
-
-    ghost from_gives = { λ _ error. error ≡ NoMemory };
-
-    fn from(_no_memory: NoMemory) -> MigrateError {
-        MigrateError::NoMemory
-    }
-}
-
-impl From<NoMemory> for ExpireError {
-    ghost use Rattle.std.specs.Prelude.{◌≡◌};
-    ghost use Rattle.curp_config.specs.declared.error.ExpireError.TheVariants.{NoMemory};
-
-    ghost from_gives = { λ _ error. error ≡ NoMemory };
-
-    fn from(_no_memory: NoMemory) -> ExpireError {
-        ExpireError::NoMemory
+    fn number(self) -> u8 {
+        1
     }
 }

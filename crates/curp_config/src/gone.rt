@@ -2,13 +2,14 @@
 ghost use Rattle.std.specs.Prelude.{◌≡◌, OnOk, OnErr, IfOk, IfErr, Ok, Err};
 ghost use Rattle.std.specs.BTreeSet.{insert_key};
 ghost use Rattle.std.specs.Ordering.{nat_cmp};
-ghost use Rattle.curp_config.specs.Refusals.{TellsExpire, expire_number};
+ghost use Rattle.curp_config.specs.Refusals.{expire_number};
 ghost use Rattle.curp_model.specs.Manager as model;
 ghost use Rattle.curp_msg.specs.declared.machine.Local.TheVariants as local;
 ghost use Rattle.curp_msg.specs.Moved.{Moves};
+ghost use Rattle.curp_msg.specs.Told.{Tells};
 
-use crate::{ExpireError, Manager};
-use curp_base::NoMemory;
+use crate::{Manager, NoClient};
+use curp_base::{Failed, NoMemory};
 use curp_changes::messages::expire_messages;
 use curp_msg::{Done, Message};
 use std::collections::BTreeSet;
@@ -16,11 +17,11 @@ use std::collections::BTreeSet;
 impl Manager {
     /// A client is declared gone, for good, and each partition's master is told. Who decides that stands outside.
     #[tactic(auto, using(crate::proofs::Ordered::expiring))]
-    pub fn expire(&mut self, client: u32) -> Result<Done, ExpireError>
+    pub fn expire(&mut self, client: u32) -> Result<Done, Failed<NoClient>>
         ensures moves { Moves self.old self.new result (model.manager_ordered self.old (local.Expire client)) }
-        ensures refused { TellsExpire (model.manager_ordered self.old (local.Expire client)).refused result }
+        ensures refused { Tells expire_number (model.manager_ordered self.old (local.Expire client)).refused result }
     {
-        let known = self.known_client(client)?;
+        let known = self.known_client(client).map_err(Failed::Because)?;
         let messages = self.gone_messages(known)?;
         note(&mut self.gone, known)?;
         Ok(Done::sends(messages))
@@ -34,14 +35,14 @@ impl Manager {
     }
 
     // A client that the header has.
-    fn known_client(&self, client: u32) -> Result<u32, ExpireError>
+    fn known_client(&self, client: u32) -> Result<u32, NoClient>
         ensures ok { IfOk result (λ known. model.client_for self.now client ≡ Ok known) }
         ensures err { IfErr result (λ why. model.client_for self.now client ≡ Err (expire_number why)) }
     {
         if 0 < client && client <= self.shape.clients {
             Ok(client)
         } else {
-            Err(ExpireError::NoClient)
+            Err(NoClient)
         }
     }
 }

@@ -16,5 +16,5 @@ mod nudging;
 mod recovering;
 mod replacing;
 
-pub use error::{ExpireError, MigrateError, RecoverError, ReplaceError};
+pub use error::{MigrateError, NoClient, RecoverError, ReplaceError};
 pub use manager::Manager;

@@ -1,7 +1,6 @@
 ghost use Rattle.std.specs.Prelude.{◌≡◌, ◌≢◌, ◌*◌, ◌<◌, ◌≤◌, IsOk, IfOk, IfSome};
 ghost use Rattle.std.specs.Option.{option_copied};
 ghost use Rattle.curp_config.specs.Parts.{IsNumbered};
-ghost use Rattle.curp_config.specs.Refusals.{TellsRefusal};
 ghost use Rattle.curp_base.specs.Words.{numbered};
 ghost use Rattle.curp_model.specs.Manager as model;
 ghost use Rattle.curp_msg.specs.declared.machine.Local.TheVariants as local;
@@ -13,8 +12,8 @@ use curp_changes::messages::{one, says};
 use curp_changes::names::{numbered, put_numbered};
 use curp_changes::{Migration, Next, Shape, Work, opening_config, opening_work};
 use curp_cmd::{Keeper, NodeId};
-use curp_msg::{Body, Config, Core, Done, Local, Message, PartConfig};
-use std::alloc::{AllocError, Global};
+use curp_msg::{Body, Config, Core, Done, Local, Message, PartConfig, told};
+use std::alloc::Global;
 use std::collections::BTreeSet;
 use std::marker::Model;
 
@@ -192,10 +191,7 @@ impl Manager {
         ensures refused { (model.manager_ordered self.old (local.Recover part backup witness)).refused ≢ 0
             → IsOk result }
     {
-        match self.recover(part, backup, witness) {
-            Ok(done) => Ok(done),
-            Err(error) => told(self.alloc, error.number()),
-        }
+        told(self.alloc, self.recover(part, backup, witness))
     }
 
     fn told_to_replace(&mut self, part: u32, kind: Keeper, place: u32) -> Result<Done, NoMemory>
@@ -203,30 +199,21 @@ impl Manager {
             (model.manager_ordered self.old (local.Replace kind part place)) }
         ensures refused { (model.manager_ordered self.old (local.Replace kind part place)).refused ≢ 0 → IsOk result }
     {
-        match self.replace(part, kind, place) {
-            Ok(done) => Ok(done),
-            Err(error) => told(self.alloc, error.number()),
-        }
+        told(self.alloc, self.replace(part, kind, place))
     }
 
     fn told_to_migrate(&mut self, lo: u64, hi: u64, to: u32) -> Result<Done, NoMemory>
         ensures moves { Moves self.old self.new result (model.manager_ordered self.old (local.Migrate lo hi to)) }
         ensures refused { (model.manager_ordered self.old (local.Migrate lo hi to)).refused ≢ 0 → IsOk result }
     {
-        match self.migrate(lo, hi, to) {
-            Ok(done) => Ok(done),
-            Err(error) => told(self.alloc, error.number()),
-        }
+        told(self.alloc, self.migrate(lo, hi, to))
     }
 
     fn told_to_expire(&mut self, client: u32) -> Result<Done, NoMemory>
         ensures moves { Moves self.old self.new result (model.manager_ordered self.old (local.Expire client)) }
         ensures refused { (model.manager_ordered self.old (local.Expire client)).refused ≢ 0 → IsOk result }
     {
-        match self.expire(client) {
-            Ok(done) => Ok(done),
-            Err(error) => told(self.alloc, error.number()),
-        }
+        told(self.alloc, self.expire(client))
     }
 
     // The configuration, as it is asked for.
@@ -269,14 +256,4 @@ fn same_migration(moving: &Option<Migration>) -> Result<Option<Migration>, NoMem
         Some(migration) => Ok(Some(migration.copy()?)),
         None => Ok(None),
     }
-}
-
-// What is told of an order that wasn't made: the number of its refusal, else out of memory.
-fn told(alloc: Global, refusal: u8) -> Result<Done, NoMemory>
-    ensures { TellsRefusal refusal result }
-{
-    if refusal == 0 {
-        return Err(AllocError);
-    }
-    Ok(Done::refuses(alloc, refusal))
 }

@@ -1,15 +1,16 @@
 // Migrations: how they are ordered, and how they end.
 ghost use Rattle.std.specs.Prelude.{◌≡◌, ◌≤◌, OnOk, IfOk, IfErr, Ok, Err};
 ghost use Rattle.std.specs.Option.{option_copied};
-ghost use Rattle.curp_config.specs.Refusals.{NamesMigration, TellsMigrate, migrate_number};
+ghost use Rattle.curp_config.specs.Refusals.{NamesMigration, migrate_number};
 ghost use Rattle.curp_changes.specs.Work.{AreNext, after_migrate};
 ghost use Rattle.curp_config.specs.Work.{IsMove};
 ghost use Rattle.curp_model.specs.Manager as model;
 ghost use Rattle.curp_msg.specs.declared.machine.Local.TheVariants as local;
 ghost use Rattle.curp_msg.specs.Moved.{Moves};
+ghost use Rattle.curp_msg.specs.Told.{IfBecause, Tells};
 
 use crate::{Manager, MigrateError};
-use curp_base::NoMemory;
+use curp_base::{Failed, NoMemory};
 use curp_changes::messages::{give_message, one, take_message};
 use curp_changes::{Migration, Next, move_range};
 use curp_msg::{Done, Parcel, PartConfig};
@@ -17,13 +18,13 @@ use curp_msg::{Done, Parcel, PartConfig};
 impl Manager {
     /// The hashes from `lo` to `hi`, both counted, are to move to a partition. One migration is made at a time.
     #[tactic(auto, using(crate::proofs::Ordered::migrating))]
-    pub fn migrate(&mut self, lo: u64, hi: u64, to: u32) -> Result<Done, MigrateError>
+    pub fn migrate(&mut self, lo: u64, hi: u64, to: u32) -> Result<Done, Failed<MigrateError>>
         ensures moves { Moves self.old self.new result (model.manager_ordered self.old (local.Migrate lo hi to)) }
-        ensures refused { TellsMigrate (model.manager_ordered self.old (local.Migrate lo hi to)).refused result }
-        ensures named { IfErr result (NamesMigration self.old.moving) }
+        ensures refused { Tells migrate_number (model.manager_ordered self.old (local.Migrate lo hi to)).refused result }
+        ensures named { IfErr result (IfBecause (NamesMigration self.old.moving)) }
     {
         let next = self.numbers_after_migration();
-        let (owner, target) = self.movable(lo, hi, to)?;
+        let (owner, target) = self.movable(lo, hi, to).map_err(Failed::Because)?;
         let Some(next) = next else {
             return Ok(Done::quiet(self.alloc));
         };

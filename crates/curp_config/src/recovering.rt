@@ -3,16 +3,17 @@ ghost use Rattle.std.specs.Prelude.{◌≡◌, ◌+◌, ◌≤◌, IfOk, IfErr, 
 ghost use Rattle.std.specs.Option.{option_copied, option_map};
 ghost use Rattle.curp_base.specs.Words.{numbered};
 ghost use Rattle.curp_config.specs.Parts.{IsNumbered};
-ghost use Rattle.curp_config.specs.Refusals.{NamesPlaces, TellsRecover, recover_number};
+ghost use Rattle.curp_config.specs.Refusals.{NamesPlaces, recover_number};
 ghost use Rattle.curp_changes.specs.Work.{AreNext};
 ghost use Rattle.curp_config.specs.Work.{attempted};
 ghost use Rattle.curp_cmd.specs.Node.{master_node};
 ghost use Rattle.curp_model.specs.Manager as model;
 ghost use Rattle.curp_msg.specs.declared.machine.Local.TheVariants as local;
 ghost use Rattle.curp_msg.specs.Moved.{Moves};
+ghost use Rattle.curp_msg.specs.Told.{IfBecause, Tells};
 
 use crate::{Manager, RecoverError};
-use curp_base::{Boxed, Items, NoMemory};
+use curp_base::{Boxed, Failed, Items, NoMemory};
 use curp_changes::messages::recover_messages;
 use curp_changes::names::{backup_names, numbered, witness_names};
 use curp_changes::{Attempt, Doing, Next, Work, opening_hashes};
@@ -31,15 +32,22 @@ impl Manager {
     /// A partition is to be recovered from the backup and the witness at these places of its adopted lists, counted
     /// from 1 (CURP: one backup and one witness are enough). A recovery or a replacement that isn't finished is given up.
     #[tactic(auto, using(crate::proofs::Ordered::recovering))]
-    pub fn recover(&mut self, part: u32, backup: u32, witness: u32) -> Result<Done, RecoverError>
+    pub fn recover(
+        &mut self,
+        part: u32,
+        backup: u32,
+        witness: u32,
+    ) -> Result<Done, Failed<RecoverError>>
         ensures moves { Moves self.old self.new result
             (model.manager_ordered self.old (local.Recover part backup witness)) }
-        ensures refused { TellsRecover
+        ensures refused { Tells recover_number
             (model.manager_ordered self.old (local.Recover part backup witness)).refused result }
-        ensures named { IfErr result (NamesPlaces backup witness) }
+        ensures named { IfErr result (IfBecause (NamesPlaces backup witness)) }
     {
         let next = self.numbers_after_recovery();
-        let sources = self.sources(part, backup, witness)?;
+        let sources = self
+            .sources(part, backup, witness)
+            .map_err(Failed::Because)?;
         let Some(next) = next else {
             return Ok(Done::quiet(self.alloc));
         };

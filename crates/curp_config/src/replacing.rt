@@ -3,15 +3,16 @@ ghost use Rattle.std.specs.Prelude.{◌≡◌, ◌≤◌, OnOk, IfOk, IfErr, IfS
 ghost use Rattle.std.specs.Option.{option_copied, option_map};
 ghost use Rattle.curp_base.specs.Words.{numbered};
 ghost use Rattle.curp_config.specs.Parts.{IsNumbered, prepared_part};
-ghost use Rattle.curp_config.specs.Refusals.{NamesWork, TellsReplace, replace_number};
+ghost use Rattle.curp_config.specs.Refusals.{NamesWork, replace_number};
 ghost use Rattle.curp_changes.specs.Work.{AreNext};
 ghost use Rattle.curp_config.specs.Work.{in_work, lists_of};
 ghost use Rattle.curp_model.specs.Manager as model;
 ghost use Rattle.curp_msg.specs.declared.machine.Local.TheVariants as local;
 ghost use Rattle.curp_msg.specs.Moved.{Moves};
+ghost use Rattle.curp_msg.specs.Told.{IfBecause, Tells};
 
 use crate::{Manager, ReplaceError};
-use curp_base::{Items, NoMemory};
+use curp_base::{Failed, Items, NoMemory};
 use curp_changes::messages::replace_messages;
 use curp_changes::names::{numbered, put_numbered};
 use curp_changes::{Doing, Next, Replacement, Work};
@@ -22,14 +23,21 @@ impl Manager {
     /// The backup or the witness at a place of a partition's adopted list, counted from 1, is to be replaced by a fresh
     /// one. One that takes its place isn't in the configuration before the partition's master has prepared for it.
     #[tactic(auto, using(crate::proofs::Ordered::replacing))]
-    pub fn replace(&mut self, part: u32, kind: Keeper, place: u32) -> Result<Done, ReplaceError>
+    pub fn replace(
+        &mut self,
+        part: u32,
+        kind: Keeper,
+        place: u32,
+    ) -> Result<Done, Failed<ReplaceError>>
         ensures moves { Moves self.old self.new result
             (model.manager_ordered self.old (local.Replace kind part place)) }
-        ensures refused { TellsReplace (model.manager_ordered self.old (local.Replace kind part place)).refused result }
-        ensures named { IfErr result (NamesWork (numbered self.old.doing part)) }
+        ensures refused { Tells replace_number (model.manager_ordered self.old (local.Replace kind part place)).refused result }
+        ensures named { IfErr result (IfBecause (NamesWork (numbered self.old.doing part))) }
     {
         let next = self.numbers_after_replacement(kind);
-        let entry = self.replaceable(part, kind, place)?;
+        let entry = self
+            .replaceable(part, kind, place)
+            .map_err(Failed::Because)?;
         let Some(next) = next else {
             return Ok(Done::quiet(self.alloc));
         };

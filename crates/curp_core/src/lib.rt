@@ -53,7 +53,7 @@
 //! | `Migrate`, `Expire` | the manager | hashes are to move; a client is gone for good |
 //!
 //! Each order to a client or the manager is a call too, as `invoke` of a `ClientNode` and `recover` of a `ManagerNode`: what
-//! refuses it is an error there (`InvokeError`, `RecoverError`), and no number. A node behind a journal takes orders alone.
+//! refuses it is a reason there (`InvokeError`, `RecoverError`), `Because` of which the call `Failed`, and no number. A node behind a journal takes orders alone.
 //!
 //! The nodes have no policy of their own. That of `curp live` has its numbers in `policy`, and its code in
 //! `curp_live/src/chores.rt`: a client has at most `PENDING_AT_ONCE` requests pending, and retries all of them in order
@@ -101,9 +101,10 @@ pub use curp_cmd::{
     Answer, Command, Keeper, Key, KeyError, MultiError, NodeId, NodeKind, Request, RequestId,
     Value, ValueError,
 };
-pub use curp_config::{ExpireError, MigrateError, RecoverError, ReplaceError};
+pub use curp_config::{MigrateError, NoClient, RecoverError, ReplaceError};
 pub use curp_msg::{
-    Capture, Completed, Config, Core, Done, Header, Input, Local, Message, PartConfig, Protocol,
+    Capture, Completed, Config, Core, Done, Header, Input, Local, Message, Numbered, PartConfig,
+    Protocol,
 };
 pub use curp_nodes::{BackupNode, ClientNode, ManagerNode, MasterNode, WitnessNode};
 pub use curp_slots::BadShape;

@@ -17,7 +17,7 @@ use curp_front::{
 };
 use curp_io::{Sink, Source};
 use curp_journal::{Arrived, is_own};
-use curp_msg::Local;
+use curp_msg::{Local, Numbered};
 use curp_nodes::ClientNode;
 use curp_parcels::{NextParcel, Parcels};
 use curp_told::{tell, tell_one};

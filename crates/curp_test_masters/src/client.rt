@@ -1,7 +1,7 @@
 //! A client: how it invokes, when a request completes, and what it can't send.
 
 use crate::build::{config, id, key, message, must, put, reply, right, right_at};
-use curp_base::Boxed;
+use curp_base::{Boxed, Failed};
 use curp_client::{Client, InvokeError, RetryError};
 use curp_cmd::{Answer, Command, NodeId, NodeKind};
 use curp_msg::{
@@ -217,11 +217,11 @@ fn reads_by_a_captured_value(rt: HostRuntime) {
     drop(done);
 }
 
-fn invoke_error(rt: &impl Abort, client: &mut Client) -> Option<InvokeError> {
+fn invoke_error(rt: &impl Abort, client: &mut Client) -> Option<Failed<InvokeError>> {
     client.invoke(&put_one(rt)).err()
 }
 
-fn retry_error(client: &mut Client, seq: u32) -> Option<RetryError> {
+fn retry_error(client: &mut Client, seq: u32) -> Option<Failed<RetryError>> {
     client.retry(seq).err()
 }
 
@@ -242,18 +242,18 @@ fn refuses_what_it_cannot_send(rt: HostRuntime) {
     }
     right(
         &rt,
-        invoke_error(&rt, &mut client) == Some(InvokeError::TooMany),
+        invoke_error(&rt, &mut client) == Some(Failed::Because(InvokeError::TooMany)),
         "refuses what it cannot send (1)",
     );
     right(
         &rt,
-        retry_error(&mut client, 9) == Some(RetryError::NotPending),
+        retry_error(&mut client, 9) == Some(Failed::Because(RetryError::NotPending)),
         "refuses what it cannot send (2)",
     );
     split(&rt, rt.alloc(), &mut client);
     right(
         &rt,
-        retry_error(&mut client, 8) == Some(RetryError::Split),
+        retry_error(&mut client, 8) == Some(Failed::Because(RetryError::Split)),
         "refuses what it cannot send (3)",
     );
     drop(client);

@@ -1,10 +1,10 @@
 //! The manager: what it tells nodes as it replaces them, lets a partition be recovered and moves a range.
 
 use crate::build::{boxed, message, must, right};
-use curp_base::{AscendingPairs, Shared};
+use curp_base::{AscendingPairs, Failed, Shared};
 use curp_changes::Shape;
 use curp_cmd::{Keeper, NodeId, NodeKind, Package, TablePart};
-use curp_config::{ExpireError, Manager, MigrateError, RecoverError, ReplaceError};
+use curp_config::{Manager, MigrateError, NoClient, RecoverError, ReplaceError};
 use curp_msg::{Body, Config, Core, Done, Message, Parcel, Prepare, Recover, Recovered};
 use std::alloc::Global;
 use std::process::Abort;
@@ -160,7 +160,7 @@ fn replace(rt: &impl Abort, manager: &mut Manager) -> Done {
     must(rt, manager.replace(1, Keeper::Witness, 1))
 }
 
-fn replace_error(manager: &mut Manager) -> Option<ReplaceError> {
+fn replace_error(manager: &mut Manager) -> Option<Failed<ReplaceError>> {
     manager.replace(1, Keeper::Backup, 1).err()
 }
 
@@ -176,7 +176,7 @@ fn replaces_a_witness(rt: HostRuntime) {
     let again = replace_error(&mut manager);
     right(
         &rt,
-        again == Some(ReplaceError::Replacing { version: 2 }),
+        again == Some(Failed::Because(ReplaceError::Replacing { version: 2 })),
         "replaces a witness",
     );
     try_prepared(&rt, &mut manager);
@@ -196,7 +196,7 @@ fn recover(rt: &impl Abort, manager: &mut Manager, part: u32, place: u32) -> Don
     must(rt, manager.recover(part, place, place))
 }
 
-fn recover_error(manager: &mut Manager) -> Option<RecoverError> {
+fn recover_error(manager: &mut Manager) -> Option<Failed<RecoverError>> {
     manager.recover(1, 2, 1).err()
 }
 
@@ -212,7 +212,7 @@ fn adopts_the_newest_attempt(rt: HostRuntime) {
     let nowhere = recover_error(&mut manager);
     right(
         &rt,
-        nowhere == Some(RecoverError::NoBackup { place: 2 }),
+        nowhere == Some(Failed::Because(RecoverError::NoBackup { place: 2 })),
         "adopts the newest attempt",
     );
     try_sent(&rt, recover(&rt, &mut manager, 1, 1), &FIRST_ATTEMPT);
@@ -240,7 +240,7 @@ fn moves_a_range(rt: HostRuntime) {
     let other = migrate_error(&mut manager);
     right(
         &rt,
-        other == Some(MigrateError::Moving { id: 1 }),
+        other == Some(Failed::Because(MigrateError::Moving { id: 1 })),
         "moves a range",
     );
     try_move(&rt, rt.alloc(), &mut manager);
@@ -248,7 +248,7 @@ fn moves_a_range(rt: HostRuntime) {
     drop(manager);
 }
 
-fn migrate_error(manager: &mut Manager) -> Option<MigrateError> {
+fn migrate_error(manager: &mut Manager) -> Option<Failed<MigrateError>> {
     manager.migrate(0, 0, 2).err()
 }
 
@@ -287,7 +287,7 @@ fn recover_all(rt: &impl Abort, manager: &mut Manager) {
     }
 }
 
-fn expire_error(manager: &mut Manager, client: u32) -> Option<ExpireError> {
+fn expire_error(manager: &mut Manager, client: u32) -> Option<Failed<NoClient>> {
     manager.expire(client).err()
 }
 
@@ -298,7 +298,7 @@ fn expire_all(rt: &impl Abort, manager: &mut Manager) {
     }
     right(
         rt,
-        expire_error(manager, 65) == Some(ExpireError::NoClient),
+        expire_error(manager, 65) == Some(Failed::Because(NoClient)),
         "expire all",
     );
 }
