@@ -2,4 +2,3 @@ pub mod Found
 pub mod Kept
 pub mod Numbers
 pub mod Orders
-pub mod Told

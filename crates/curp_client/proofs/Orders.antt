@@ -2,20 +2,21 @@
 use Rattle.std.proofs.Common.{◌≡◌, ℕ, ◌+◌, ◌≤◌, false, List, [], ◌∷◌, ◌++◌, Some, None, Result, Ok, Err, refl, ap, sym, ◌∙◌, arith}
 use Rattle.std.specs.Result.{IsErr, IsErrAnd}
 use Rattle.curp_base.specs.Words.{Each}
+use Rattle.curp_base.specs.declared.failed.Failed.{Failed}
+use Rattle.curp_base.specs.declared.failed.Failed.TheVariants as failed
 use Rattle.curp_base.proofs.Lists.{Each-append, Each-weaker}
 use Rattle.curp_cmd.specs.Store.{is_update}
 use Rattle.curp_cmd.specs.declared.command.Command.{Command}
 use Rattle.curp_cmd.specs.declared.command.Request.{Request}
 use Rattle.curp_msg.specs.declared.config.PartConfig.{PartConfig}
 use Rattle.curp_msg.specs.Moved.{Moved, refuses, sends}
+use Rattle.curp_msg.specs.Told.{Tells}
 use Rattle.curp_msg.specs.declared.message.Message.{Message}
 use Rattle.curp_model.specs.Client.{Attempt, ClientState, NumbersAreUsed, Pending, attempt_at, invocation_for, invoke, next_request, owner_of, replaced, retry, sends_again, sends_first, sent_by, with_id}
 use Rattle.curp_client.specs.Requests.{Changes}
-use Rattle.curp_client.specs.Refusals.{TellsInvoke, TellsRetry, invoke_number, retry_number}
+use Rattle.curp_client.specs.Refusals.{invoke_number, retry_number}
 use Rattle.curp_client.specs.declared.error.InvokeError.{InvokeError}
-use Rattle.curp_client.specs.declared.error.InvokeError.TheVariants as for_invoke
 use Rattle.curp_client.specs.declared.error.RetryError.{RetryError}
-use Rattle.curp_client.specs.declared.error.RetryError.TheVariants as for_retry
 
 -- ---- a command is invoked
 
@@ -30,10 +31,10 @@ unfolding invoke
 invoke_refused n c command why e = rw e refl
 
 -- running out of memory is told only of what isn't refused
-pub invoke_out_of_memory : {A : Type 0} (n : ℕ) (c : ClientState) (command : Command) (p : PartConfig) (r : Result A InvokeError) → invocation_for c command ≡ Ok p
-    → IsErr r × IsErrAnd r (λ why. why ≡ for_invoke.NoMemory) → TellsInvoke (invoke n c command).refused r
+pub invoke_out_of_memory : {A : Type 0} (n : ℕ) (c : ClientState) (command : Command) (p : PartConfig) (r : Result A (Failed InvokeError)) → invocation_for c command ≡ Ok p
+    → IsErr r × IsErrAnd r (λ why. why ≡ failed.NoMemory) → Tells invoke_number (invoke n c command).refused r
 invoke_out_of_memory n c command p (Ok x) e wants = absurd wants.1
-invoke_out_of_memory n c command p (Err why) e wants = ap (λ (m : Moved ClientState). m.refused) (invoke_made n c command p e) ∙ ap invoke_number (sym wants.1)
+invoke_out_of_memory n c command p (Err why) e wants = rw wants.1 (ap (λ (m : Moved ClientState). m.refused) (invoke_made n c command p e))
 
 -- what invoking comes to
 pub ruleset invoking = (invoke_made, invoke_refused, invoke_out_of_memory)
@@ -59,10 +60,10 @@ module _ (n : ℕ) (c : ClientState) (seq : ℕ) where
         rw (sym found, owns) refl
 
     -- running out of memory is told only of what isn't refused
-    pub retry_out_of_memory : {A : Type 0} (p : PartConfig) (r : Result A RetryError) → Some p ≡ owner_of c.config request.command
-        → IsErr r × IsErrAnd r (λ why. why ≡ for_retry.NoMemory) → TellsRetry (retry n c seq).refused r
+    pub retry_out_of_memory : {A : Type 0} (p : PartConfig) (r : Result A (Failed RetryError)) → Some p ≡ owner_of c.config request.command
+        → IsErr r × IsErrAnd r (λ why. why ≡ failed.NoMemory) → Tells retry_number (retry n c seq).refused r
     retry_out_of_memory p (Ok x) owner wants = absurd wants.1
-    retry_out_of_memory p (Err why) owner wants = ap (λ (m : Moved ClientState). m.refused) (retry_made p owner) ∙ ap retry_number (sym wants.1)
+    retry_out_of_memory p (Err why) owner wants = rw wants.1 (ap (λ (m : Moved ClientState). m.refused) (retry_made p owner))
 
     -- once it is sent
     pub retry_sends : (p : PartConfig) (attempt : Attempt) (pending : List Pending) (messages : List Message) → Some p ≡ owner_of c.config request.command

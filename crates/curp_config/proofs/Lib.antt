@@ -4,4 +4,3 @@ pub mod Entries
 pub mod Movable
 pub mod Ordered
 pub mod Steps
-pub mod Told

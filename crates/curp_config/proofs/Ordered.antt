@@ -1,23 +1,22 @@
 -- What orders come to, once it is known whether they are refused and whether a number ends.
 use Rattle.std.proofs.Common.{◌≡◌, ℕ, ◌+◌, true, false, Ok, Err, Result, Option, refl, ap, sym, ◌∙◌}
 use Rattle.std.specs.Result.{IfErr, IsErr, IsErrAnd}
+use Rattle.curp_base.specs.declared.failed.Failed.{Failed}
+use Rattle.curp_base.specs.declared.failed.Failed.TheVariants as failed
 use Rattle.curp_cmd.specs.declared.node.Keeper.{Keeper}
 use Rattle.curp_msg.specs.Moved.{Moved, quiet, refuses, unless_refused}
+use Rattle.curp_msg.specs.Told.{IfBecause, Tells}
 use Rattle.curp_msg.specs.declared.body.Recover.{Recover}
 use Rattle.curp_msg.specs.declared.config.PartConfig.{PartConfig}
 use Rattle.curp_msg.specs.declared.machine.Local.TheVariants as local
 use Rattle.curp_model.specs.Manager as model
 use Rattle.curp_model.specs.Manager.{ManagerState, counter_ends, manager_ordered, unless_numbers_end}
 use Rattle.curp_config.proofs.Ends.{counter_stops, goes_on, stands}
-use Rattle.curp_config.specs.Refusals.{NamesMigration, NamesPlaces, NamesWork, TellsExpire, TellsMigrate, TellsRecover, TellsReplace, expire_number, migrate_number, recover_number, replace_number}
-use Rattle.curp_config.specs.declared.error.ExpireError.{ExpireError}
-use Rattle.curp_config.specs.declared.error.ExpireError.TheVariants as for_expire
+use Rattle.curp_config.specs.Refusals.{NamesMigration, NamesPlaces, NamesWork, expire_number, migrate_number, recover_number, replace_number}
+use Rattle.curp_config.specs.declared.error.NoClient.{NoClient}
 use Rattle.curp_config.specs.declared.error.MigrateError.{MigrateError}
-use Rattle.curp_config.specs.declared.error.MigrateError.TheVariants as for_migrate
 use Rattle.curp_config.specs.declared.error.RecoverError.{RecoverError}
-use Rattle.curp_config.specs.declared.error.RecoverError.TheVariants as for_recover
 use Rattle.curp_config.specs.declared.error.ReplaceError.{ReplaceError}
-use Rattle.curp_config.specs.declared.error.ReplaceError.TheVariants as for_replace
 
 -- what isn't refused, and by which no number ends
 ordered_goes_on : {A : Type 0} (g : ManagerState) (act : A → Moved ManagerState) (r : Result A ℕ) (x : A) → r ≡ Ok x
@@ -101,43 +100,43 @@ nudge_made g = stands g (model.nudge g) refl refl
 -- ---- running out of memory
 
 -- running out of memory is told only of what isn't refused
-pub recover_out_of_memory : {A : Type 0} (g : ManagerState) (p backup witness : ℕ) (x : Recover) (r : Result A RecoverError) → model.recovery_for g p backup witness ≡ Ok x → counter_ends g.next (model.after_recover_numbers g) ≡ false → IsErr r × IsErrAnd r (λ why. why ≡ for_recover.NoMemory)
-    → TellsRecover (manager_ordered g (local.Recover p backup witness)).refused r
+pub recover_out_of_memory : {A : Type 0} (g : ManagerState) (p backup witness : ℕ) (x : Recover) (r : Result A (Failed RecoverError)) → model.recovery_for g p backup witness ≡ Ok x → counter_ends g.next (model.after_recover_numbers g) ≡ false → IsErr r × IsErrAnd r (λ why. why ≡ failed.NoMemory)
+    → Tells recover_number (manager_ordered g (local.Recover p backup witness)).refused r
 recover_out_of_memory g p backup witness x (Ok done) e some wants = absurd wants.1
-recover_out_of_memory g p backup witness x (Err why) e some wants = ap (λ (m : Moved ManagerState). m.refused) (recover_made g p backup witness x e some) ∙ ap recover_number (sym wants.1)
+recover_out_of_memory g p backup witness x (Err why) e some wants = rw wants.1 (ap (λ (m : Moved ManagerState). m.refused) (recover_made g p backup witness x e some))
 
 -- running out of memory names nothing
-pub recover_names_nothing : {A : Type 0} (backup witness : ℕ) (r : Result A RecoverError) → IsErr r × IsErrAnd r (λ why. why ≡ for_recover.NoMemory) → IfErr r (NamesPlaces backup witness)
+pub recover_names_nothing : {A : Type 0} (backup witness : ℕ) (r : Result A (Failed RecoverError)) → IsErr r × IsErrAnd r (λ why. why ≡ failed.NoMemory) → IfErr r (IfBecause (NamesPlaces backup witness))
 recover_names_nothing backup witness (Ok done) wants = tt
 recover_names_nothing backup witness (Err why) wants = rw wants.1 tt
 
 -- running out of memory is told only of what isn't refused
-pub replace_out_of_memory : {A : Type 0} (g : ManagerState) (kind : Keeper) (p place : ℕ) (x : PartConfig) (r : Result A ReplaceError) → model.replacement_for g kind p place ≡ Ok x → counter_ends g.next (model.after_replace_numbers g.next kind) ≡ false → IsErr r × IsErrAnd r (λ why. why ≡ for_replace.NoMemory)
-    → TellsReplace (manager_ordered g (local.Replace kind p place)).refused r
+pub replace_out_of_memory : {A : Type 0} (g : ManagerState) (kind : Keeper) (p place : ℕ) (x : PartConfig) (r : Result A (Failed ReplaceError)) → model.replacement_for g kind p place ≡ Ok x → counter_ends g.next (model.after_replace_numbers g.next kind) ≡ false → IsErr r × IsErrAnd r (λ why. why ≡ failed.NoMemory)
+    → Tells replace_number (manager_ordered g (local.Replace kind p place)).refused r
 replace_out_of_memory g kind p place x (Ok done) e some wants = absurd wants.1
-replace_out_of_memory g kind p place x (Err why) e some wants = ap (λ (m : Moved ManagerState). m.refused) (replace_made g kind p place x e some) ∙ ap replace_number (sym wants.1)
+replace_out_of_memory g kind p place x (Err why) e some wants = rw wants.1 (ap (λ (m : Moved ManagerState). m.refused) (replace_made g kind p place x e some))
 
 -- running out of memory names nothing
-pub replace_names_nothing : {A : Type 0} (doing : Option model.Doing) (r : Result A ReplaceError) → IsErr r × IsErrAnd r (λ why. why ≡ for_replace.NoMemory) → IfErr r (NamesWork doing)
+pub replace_names_nothing : {A : Type 0} (doing : Option model.Doing) (r : Result A (Failed ReplaceError)) → IsErr r × IsErrAnd r (λ why. why ≡ failed.NoMemory) → IfErr r (IfBecause (NamesWork doing))
 replace_names_nothing doing (Ok done) wants = tt
 replace_names_nothing doing (Err why) wants = rw wants.1 tt
 
 -- running out of memory is told only of what isn't refused
-pub migrate_out_of_memory : {A : Type 0} (g : ManagerState) (lo hi to : ℕ) (x : model.Move) (r : Result A MigrateError) → model.move_for g lo hi to ≡ Ok x → counter_ends g.next (record g.next { migration = g.next.migration + 1 }) ≡ false → IsErr r × IsErrAnd r (λ why. why ≡ for_migrate.NoMemory)
-    → TellsMigrate (manager_ordered g (local.Migrate lo hi to)).refused r
+pub migrate_out_of_memory : {A : Type 0} (g : ManagerState) (lo hi to : ℕ) (x : model.Move) (r : Result A (Failed MigrateError)) → model.move_for g lo hi to ≡ Ok x → counter_ends g.next (record g.next { migration = g.next.migration + 1 }) ≡ false → IsErr r × IsErrAnd r (λ why. why ≡ failed.NoMemory)
+    → Tells migrate_number (manager_ordered g (local.Migrate lo hi to)).refused r
 migrate_out_of_memory g lo hi to x (Ok done) e some wants = absurd wants.1
-migrate_out_of_memory g lo hi to x (Err why) e some wants = ap (λ (m : Moved ManagerState). m.refused) (migrate_made g lo hi to x e some) ∙ ap migrate_number (sym wants.1)
+migrate_out_of_memory g lo hi to x (Err why) e some wants = rw wants.1 (ap (λ (m : Moved ManagerState). m.refused) (migrate_made g lo hi to x e some))
 
 -- running out of memory names nothing
-pub migrate_names_nothing : {A : Type 0} (moving : Option model.Migration) (r : Result A MigrateError) → IsErr r × IsErrAnd r (λ why. why ≡ for_migrate.NoMemory) → IfErr r (NamesMigration moving)
+pub migrate_names_nothing : {A : Type 0} (moving : Option model.Migration) (r : Result A (Failed MigrateError)) → IsErr r × IsErrAnd r (λ why. why ≡ failed.NoMemory) → IfErr r (IfBecause (NamesMigration moving))
 migrate_names_nothing moving (Ok done) wants = tt
 migrate_names_nothing moving (Err why) wants = rw wants.1 tt
 
 -- running out of memory is told only of what isn't refused
-pub expire_out_of_memory : {A : Type 0} (g : ManagerState) (client : ℕ) (x : ℕ) (r : Result A ExpireError) → model.client_for g client ≡ Ok x → IsErr r × IsErrAnd r (λ why. why ≡ for_expire.NoMemory)
-    → TellsExpire (manager_ordered g (local.Expire client)).refused r
+pub expire_out_of_memory : {A : Type 0} (g : ManagerState) (client : ℕ) (x : ℕ) (r : Result A (Failed NoClient)) → model.client_for g client ≡ Ok x → IsErr r × IsErrAnd r (λ why. why ≡ failed.NoMemory)
+    → Tells expire_number (manager_ordered g (local.Expire client)).refused r
 expire_out_of_memory g client x (Ok done) e wants = absurd wants.1
-expire_out_of_memory g client x (Err why) e wants = ap (λ (m : Moved ManagerState). m.refused) (expire_made g client x e) ∙ ap expire_number (sym wants.1)
+expire_out_of_memory g client x (Err why) e wants = rw wants.1 (ap (λ (m : Moved ManagerState). m.refused) (expire_made g client x e))
 
 -- what each order comes to
 pub ruleset recovering = (recover_refused, recover_made, recover_stops, recover_out_of_memory, recover_names_nothing)

@@ -1,20 +1,18 @@
-use Rattle.std.proofs.Common.{sym, ◌∙◌, rules}
 use Rattle.curp_model.specs.Client.{ClientState, retry}
+use Rattle.curp_msg.proofs.Telling.{told_moves, told_refusal}
 use Rattle.curp_msg.specs.Moved.{numbered_move, refuses_within}
+use Rattle.curp_client.specs.Refusals.{retry_number, retry_numbers_refuse}
 use Rattle.curp_client.specs.Refused.{retry_refuses}
-use Rattle.curp_client.proofs.Told.{tells_moves}
 use Rattle.curp_client.proofs.client.Client.told_to_retry.Goals as goal
-use Rattle.curp_client.proofs.client.Client.told_to_retry.Goals.{in-Ok, in-Err}
 
 pub returns-clause-moves : goal.returns-clause-moves
 returns-clause-moves c =
     let node = c.args.self.now in
     let seq = c.args.seq in
-    elim c.match-retry.branch [
-      | in-Ok w ↦ rw w.result-is (search rules)
-      | in-Err w ↦
-          rw w.result-is
-          (tells_moves node _ (numbered_move node.number (retry node.number node.state seq)) _ _ (w.in-Err.ensures.refused ∙ sym w.number.ensures)
-          (refuses_within (λ (s : ClientState). record { number = node.number; state = s }) node.state (retry node.number node.state seq) (retry_refuses node.number node.state seq))
-          (cc w.in-Err.ensures.moves) w.told.ensures)
-    ]
+    rw c.told.ensures
+    (told_moves retry_number node _ (numbered_move node.number (retry node.number node.state seq)) _ retry_numbers_refuse
+    (refuses_within (λ (s : ClientState). record { number = node.number; state = s }) node.state (retry node.number node.state seq) (retry_refuses node.number node.state seq))
+    c.retry.ensures.refused c.retry.ensures.moves)
+
+pub returns-clause-refused : goal.returns-clause-refused
+returns-clause-refused c = rw c.told.ensures (told_refusal retry_number _ _ c.retry.ensures.refused)
