@@ -29,7 +29,9 @@ pub fn in_prefix(
 
 /// Memory for a reply, which holds that one for now, and for the list of it alone.
 pub fn reply_room(alloc: Global, reply: Reply) -> Result<(Boxed<Reply>, Vec<Message>), NoMemory>
-    ensures { IfOk result (λ room. (room.1.items ≡ []) × (1 ≤ vec_capacity room.1)) }
+    ensures held { IfOk result (λ room. room.0 ≡ reply) }
+    ensures empty { IfOk result (λ room. room.1.items ≡ []) }
+    ensures room { IfOk result (λ room. 1 ≤ vec_capacity room.1) }
 {
     let reply = Boxed::new(alloc, reply)?;
     let sent = Vec::with_capacity(alloc, 1)?;
