@@ -126,3 +126,8 @@ module _ (epochs : List CutEpoch) (cuts : List Cut) (f : AreFound epochs cuts) w
           let its : one (is_cut_of part c) ≡ 1 = own part e in
           let count = ap (λ (n : ℕ). how_many (is_cut_of n) cuts) e in
           omega (arith, more, itself, its, number, cuts_of c.term.part, count)
+
+-- as many epochs as adoptions
+pub epochs_counted : (epochs : List CutEpoch) (cuts : List Cut) → AreFound epochs cuts → length epochs ≡ length cuts
+epochs_counted epochs cuts f =
+    sym (how_many_all epochs) ∙ f.counted (λ _. true) ∙ how_many_all (map epoch_of cuts) ∙ length-map cuts epoch_of

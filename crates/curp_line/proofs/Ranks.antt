@@ -4,7 +4,7 @@ use Rattle.std.proofs.Math.Dec.{eqb-suc-suc, eqb-suc-zero, eqb-zero-suc}
 use Rattle.std.proofs.lemmas.Bool.Decides.{nat_tests}
 use Rattle.std.proofs.lemmas.List.{append-nil, length-map}
 use Rattle.std.proofs.lemmas.List.Elements.{filter-append}
-use Rattle.std.specs.HashMap.{HashMap, get}
+use Rattle.std.specs.Map.{lookup}
 use Rattle.std.specs.List.{filter, insert}
 use Rattle.std.specs.Option.{IsSome, option_map, unwrap_or}
 use Rattle.curp_line.specs.Cuts.{AreRanked, EpochsAscend, epoch_place, epochs_of, how_many, is_epoch_of, is_epoch_to, nth_place, part_of}
@@ -256,8 +256,8 @@ module _ (before : List CutEpoch) (added : CutEpoch) (after : List CutEpoch) (ra
 
 -- ---- how they are kept
 
-pub ranked_same : {S : Type 0} (count count' : ℕ → Option ℕ) (places places' : HashMap (ℕ × ℕ) ℕ S) (epochs : List CutEpoch) → ((part : ℕ) → count' part ≡ count part)
-    → ((key : ℕ × ℕ) → get (λ a b. (a.0 == b.0) && (a.1 == b.1)) places' key ≡ get (λ a b. (a.0 == b.0) && (a.1 == b.1)) places key)
+pub ranked_same : (count count' : ℕ → Option ℕ) (places places' : List ((ℕ × ℕ) × ℕ)) (epochs : List CutEpoch) → ((part : ℕ) → count' part ≡ count part)
+    → ((key : ℕ × ℕ) → lookup (λ (k : ℕ × ℕ). (key.0 == k.0) && (key.1 == k.1)) places' ≡ lookup (λ (k : ℕ × ℕ). (key.0 == k.0) && (key.1 == k.1)) places)
     → AreRanked count places epochs → AreRanked count' places' epochs
 ranked_same count count' places places' epochs counts same f = record {
   counted = λ part. ap (λ r. unwrap_or r 0) (counts part) ∙ f.counted part;
@@ -266,12 +266,12 @@ ranked_same count count' places places' epochs counts same f = record {
 }
 
 -- one more is counted, and found at its place
-pub ranked_push : {S : Type 0} (count count' : ℕ → Option ℕ) (places places' : HashMap (ℕ × ℕ) ℕ S) (epochs epochs' : List CutEpoch) (added : CutEpoch) (rank place : ℕ)
+pub ranked_push : (count count' : ℕ → Option ℕ) (places places' : List ((ℕ × ℕ) × ℕ)) (epochs epochs' : List CutEpoch) (added : CutEpoch) (rank place : ℕ)
     → rank ≡ how_many (is_epoch_of added.part) epochs → place ≡ length epochs → map part_of epochs' ≡ map part_of epochs ++ added.part ∷ []
     → ((test : CutEpoch → Bool) → how_many test epochs' ≡ how_many test epochs + one (test added)) → ((part : ℕ) → EpochsAscend (epochs_of part epochs'))
     → ((part : ℕ) → count' part ≡ (if added.part == part then Some (rank + 1) else count part))
-    → ((key : ℕ × ℕ) → get (λ a b. (a.0 == b.0) && (a.1 == b.1)) places' key
-    ≡ (if (added.part == key.0) && (rank == key.1) then Some place else get (λ a b. (a.0 == b.0) && (a.1 == b.1)) places key))
+    → ((key : ℕ × ℕ) → lookup (λ (k : ℕ × ℕ). (key.0 == k.0) && (key.1 == k.1)) places'
+    ≡ (if (added.part == key.0) && (rank == key.1) then Some place else lookup (λ (k : ℕ × ℕ). (key.0 == k.0) && (key.1 == k.1)) places))
     → AreRanked count places epochs → AreRanked count' places' epochs'
 ranked_push count count' places places' epochs epochs' added rank place number last parts counts ascend told updates f = record {
   counted = λ part. ap (λ r. unwrap_or r 0) (told part) ∙ go part (added.part == part) refl;

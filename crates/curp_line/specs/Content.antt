@@ -1,5 +1,5 @@
 -- What contracts see of the marks, of the slots, of the adoptions and of their epochs, and for how many more there is room: of
--- slots also for how many in the list or map that has the most of it.
+-- all but the marks also for how many in the list or map that has the most of it.
 use Rattle.std.specs.Prelude.{ℕ, List}
 use Rattle.curp_model.specs.Marks.{Mark}
 use Rattle.curp_line.specs.declared.cuts.Cut.{Cut}
@@ -18,7 +18,9 @@ pub record Slotted : Type 0 where
 pub record Adoptions : Type 0 where
   pub cuts : List Cut
   pub spare : ℕ
+  pub most : ℕ
 
 pub record Epochs : Type 0 where
   pub epochs : List CutEpoch
   pub spare : ℕ
+  pub most : ℕ

@@ -1,6 +1,6 @@
 -- The adoptions, and how one is found by its number, and how many there are up to an epoch.
 use Rattle.std.specs.Prelude.{◌≡◌, ℕ, zero, suc, ◌+◌, ◌<◌, ◌≤◌, ◌==◌, nat_le, ◌&&◌, if◌then◌else◌, Bool, List, [], ◌∷◌, map, length, Option, Some, None, option_map, unwrap_or, ⊤}
-use Rattle.std.specs.HashMap.{HashMap, get}
+use Rattle.std.specs.Map.{lookup}
 use Rattle.std.specs.List.{filter}
 use Rattle.curp_base.specs.Words.{Each}
 use Rattle.curp_model.specs.Marks.{Mark, cut_mark}
@@ -63,11 +63,11 @@ abbrev pub epoch_place : ℕ → ℕ → List CutEpoch → Option ℕ
 epoch_place part rank epochs = nth_place (λ other. other == part) (map part_of epochs) rank
 
 -- each is found by its rank
-abbrev pub ArePlaced : {S : Type 0} → HashMap (ℕ × ℕ) ℕ S → List CutEpoch → Type 0
-ArePlaced places epochs = (part rank : ℕ) → get (λ a b. (a.0 == b.0) && (a.1 == b.1)) places (part, rank) ≡ epoch_place part rank epochs
+abbrev pub ArePlaced : List ((ℕ × ℕ) × ℕ) → List CutEpoch → Type 0
+ArePlaced places epochs = (part rank : ℕ) → lookup (λ key. (part == key.0) && (rank == key.1)) places ≡ epoch_place part rank epochs
 
 -- it is known how many each partition has, each is found by its rank, and those of a partition ascend
-pub record AreRanked {S : Type 0} (count : ℕ → Option ℕ) (places : HashMap (ℕ × ℕ) ℕ S) (epochs : List CutEpoch) : Type 0 where
+pub record AreRanked (count : ℕ → Option ℕ) (places : List ((ℕ × ℕ) × ℕ)) (epochs : List CutEpoch) : Type 0 where
   pub counted : (part : ℕ) → unwrap_or (count part) 0 ≡ how_many (is_epoch_of part) epochs
   pub placed : ArePlaced places epochs
   pub ascend : (part : ℕ) → EpochsAscend (epochs_of part epochs)

@@ -1,14 +1,15 @@
-ghost use Rattle.std.specs.Prelude.{◌≡◌, ◌+◌, ◌≤◌, ◌++◌, ◌∷◌, [], if◌then◌else◌, Bool, map, OnOk};
+ghost use Rattle.std.specs.Prelude.{◌≡◌, ◌+◌, ◌≤◌, ◌++◌, ◌∷◌, [], if◌then◌else◌, Bool, length, map, max, OnOk};
 ghost use Rattle.curp_line.specs.Cuts.{epoch_place, how_many, is_epoch_of, is_epoch_to, part_of};
 
 use crate::epochs::{CutEpoch, EpochPlaces, add_epoch, count_to};
+use crate::reserved_map::ReservedMap;
 use curp_base::{NoMemory, Reserved};
 use std::alloc::Global;
-use std::collections::HashMap;
 use std::marker::Model;
 
-/// The epochs of adoptions. Contracts see them with their partitions, and for how many more there is room: the partitions
-/// stand as they came, and the epochs of one partition in ascending order.
+/// The epochs of adoptions. Contracts see them with their partitions, for how many more there is room, and for how many in the
+/// list or map that has the most of it: the partitions stand as they came, and the epochs of one partition in ascending
+/// order.
 ///
 /// That no partition's epochs move those of another is this project's own choice.
 #[derive(Drop)]
@@ -16,12 +17,12 @@ pub struct CutEpochs {
     epochs: Reserved<CutEpoch>,
     places: EpochPlaces,
     // How many each partition has.
-    counts: HashMap<u32, usize>,
+    counts: ReservedMap<u32, usize>,
 }
 
 impl Model for CutEpochs {
-    ghost use Rattle.std.specs.Prelude.{◌==◌, min};
-    ghost use Rattle.std.specs.HashMap.{get, spare};
+    ghost use Rattle.std.specs.Prelude.{◌==◌, max, min};
+    ghost use Rattle.std.specs.Map.{lookup};
     ghost use Rattle.curp_line.specs.Content.{Epochs};
     ghost use Rattle.curp_line.specs.Cuts.{AreRanked};
 
@@ -29,10 +30,11 @@ impl Model for CutEpochs {
 
     ghost view = { λ c. record {
       epochs = c.epochs.items;
-      spare = min c.epochs.spare (min (spare c.places) (spare c.counts));
+      spare = min c.epochs.spare (min c.places.spare c.counts.spare);
+      most = max c.epochs.spare (max c.places.spare c.counts.spare);
     } };
 
-    ghost invariant = { λ c. AreRanked (λ part. get (λ a b. a == b) c.counts part) c.places c.epochs.items };
+    ghost invariant = { λ c. AreRanked (λ part. lookup (λ key. part == key) c.counts.items) c.places.items c.epochs.items };
 }
 
 impl CutEpochs {
@@ -42,16 +44,17 @@ impl CutEpochs {
     {
         CutEpochs {
             epochs: Reserved::new(alloc),
-            places: HashMap::new(alloc),
-            counts: HashMap::new(alloc),
+            places: ReservedMap::new(alloc),
+            counts: ReservedMap::new(alloc),
         }
     }
 
-    /// Makes room for so many more epochs, of whatever partitions.
+    /// Makes room for so many more epochs, of whatever partitions, or for as many as there are where that is more.
     pub fn reserve(&mut self, epochs: usize) -> Result<(), NoMemory>
         ensures epochs { self.new.epochs ≡ self.old.epochs }
         ensures room { OnOk result (epochs ≤ self.new.spare) }
         ensures kept { self.old.spare ≤ self.new.spare }
+        ensures no_more { self.new.most ≤ max self.old.most (max epochs (length self.old.epochs)) }
     {
         self.epochs.reserve(epochs as u64)?;
         self.places.reserve(epochs)?;
@@ -62,7 +65,7 @@ impl CutEpochs {
     pub fn count_of(&self, part: u32) -> usize
         ensures { result ≡ how_many (is_epoch_of part) self.now.epochs }
     {
-        self.counts.get(&part).copied().unwrap_or(0)
+        self.counts.value_of(&part).unwrap_or(0)
     }
 
     /// How many epochs the partition has that are no higher than that.
@@ -77,7 +80,7 @@ impl CutEpochs {
     pub fn place_of(&self, part: u32, rank: usize) -> Option<usize>
         ensures { result ≡ epoch_place part rank self.now.epochs }
     {
-        self.places.get(&(part, rank)).copied()
+        self.places.value_of(&(part, rank))
     }
 
     /// Adds an epoch. It takes no memory, since there is room, and moves those of the partition alone that are higher.
@@ -91,9 +94,7 @@ impl CutEpochs {
         let count = self.count_of(added.part);
         add_epoch(&self.places, &mut self.epochs, count, added);
         let place = self.epochs.len() - 1;
-        let placed: Result<_, _> = self.places.insert((added.part, count), place);
-        placed.unwrap();
-        let counted: Result<_, _> = self.counts.insert(added.part, count + 1);
-        counted.unwrap();
+        self.places.put((added.part, count), place);
+        self.counts.put(added.part, count + 1);
     }
 }

@@ -1,4 +1,4 @@
-ghost use Rattle.std.specs.Prelude.{◌≡◌, ◌+◌, ◌≤◌, [], ◌∷◌, ◌++◌, length, OnOk};
+ghost use Rattle.std.specs.Prelude.{◌≡◌, ◌+◌, ◌≤◌, [], ◌∷◌, ◌++◌, length, max, OnOk};
 ghost use Rattle.std.specs.List.{position_or_len};
 ghost use Rattle.curp_line.specs.Cuts.{how_many, is_cut_at, is_cut_of, is_cut_to};
 
@@ -19,7 +19,8 @@ pub struct Cut {
     pub length: u64,
 }
 
-/// The adoptions, in the order in which they came. Contracts see them, and for how many more there is room.
+/// The adoptions, in the order in which they came. Contracts see them, for how many more there is room, and for how many in
+/// the list or map that has the most of it.
 ///
 /// That one is found by its number, and how many there are up to an epoch by a binary search, is this project's own
 /// choice. An adoption moves the epochs of its partition that are above its own, and those of no other: where a
@@ -31,13 +32,17 @@ pub struct Cuts {
 }
 
 impl Model for Cuts {
-    ghost use Rattle.std.specs.Prelude.{min};
+    ghost use Rattle.std.specs.Prelude.{max, min};
     ghost use Rattle.curp_line.specs.Content.{Adoptions};
     ghost use Rattle.curp_line.specs.Cuts.{AreFound};
 
     ghost Value = { Adoptions };
 
-    ghost view = { λ c. record { cuts = c.list.items; spare = min c.list.spare c.epochs.spare } };
+    ghost view = { λ c. record {
+      cuts = c.list.items;
+      spare = min c.list.spare c.epochs.spare;
+      most = max c.list.spare c.epochs.most;
+    } };
 
     ghost invariant = { λ c. AreFound c.epochs.epochs c.list.items };
 }
@@ -53,11 +58,12 @@ impl Cuts {
         }
     }
 
-    /// Makes room for so many more adoptions.
+    /// Makes room for so many more adoptions, or for as many as there are where that is more.
     pub fn reserve(&mut self, cuts: usize) -> Result<(), NoMemory>
         ensures cuts { self.new.cuts ≡ self.old.cuts }
         ensures room { OnOk result (cuts ≤ self.new.spare) }
         ensures kept { self.old.spare ≤ self.new.spare }
+        ensures no_more { self.new.most ≤ max self.old.most (max cuts (length self.old.cuts)) }
     {
         self.list.reserve(cuts as u64)?;
         self.epochs.reserve(cuts)

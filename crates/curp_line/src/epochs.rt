@@ -2,8 +2,8 @@
 ghost use Rattle.std.specs.Prelude.{◌≡◌, ◌+◌, ◌≤◌, ◌++◌, ◌∷◌, [], if◌then◌else◌, ℕ, Bool, map};
 ghost use Rattle.curp_line.specs.Cuts.{ArePlaced, EpochsAscend, epochs_of, how_many, is_epoch_of, is_epoch_to, part_of};
 
+use crate::reserved_map::ReservedMap;
 use curp_base::Reserved;
-use std::collections::HashMap;
 
 /// The partition and the epoch of an adoption.
 #[derive(Clone, Copy)]
@@ -13,11 +13,11 @@ pub struct CutEpoch {
 }
 
 /// The place of each epoch, by its partition and how many of that stand before it.
-pub type EpochPlaces = HashMap<(u32, usize), usize>;
+pub type EpochPlaces = ReservedMap<(u32, usize), usize>;
 
 /// How many epochs the partition has, of so many in all, that are no higher than that. It is a binary search.
 pub fn count_to(places: &EpochPlaces, epochs: &[CutEpoch], count: usize, top: CutEpoch) -> usize
-    requires placed { ArePlaced places.now epochs.now }
+    requires placed { ArePlaced places.now.items epochs.now }
     requires count { count ≡ how_many (is_epoch_of top.part) epochs.now }
     requires ascend { EpochsAscend (epochs_of top.part epochs.now) }
     ensures { result ≡ how_many (is_epoch_to top.part top.epoch) epochs.now }
@@ -26,7 +26,7 @@ pub fn count_to(places: &EpochPlaces, epochs: &[CutEpoch], count: usize, top: Cu
     let mut high = count;
     while low < high {
         let middle = low + (high - low) / 2;
-        let at = places.get(&(top.part, middle)).copied().unwrap();
+        let at = places.value_of(&(top.part, middle)).unwrap();
         if epochs[at].epoch <= top.epoch {
             low = middle + 1;
         } else {
@@ -45,7 +45,7 @@ pub fn add_epoch(
     added: CutEpoch,
 )
     requires room { 1 ≤ epochs.old.spare }
-    requires placed { ArePlaced places.now epochs.old.items }
+    requires placed { ArePlaced places.now.items epochs.old.items }
     requires count { count ≡ how_many (is_epoch_of added.part) epochs.old.items }
     requires ascend { (part : ℕ) → EpochsAscend (epochs_of part epochs.old.items) }
     ensures parts { map part_of epochs.new.items ≡ map part_of epochs.old.items ++ added.part ∷ [] }
@@ -57,7 +57,7 @@ pub fn add_epoch(
     let mut carried = added;
     let mut rank = count_to(places, epochs, count, added);
     while rank < count {
-        let at = places.get(&(added.part, rank)).copied().unwrap();
+        let at = places.value_of(&(added.part, rank)).unwrap();
         let higher = epochs[at];
         epochs.set(at, carried);
         carried = higher;

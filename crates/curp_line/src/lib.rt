@@ -5,6 +5,9 @@
 //! `curp_model`). All but `order` take no memory; `reserve` makes the room that they ask for. A completion looks at the
 //! marks of its request alone, an adoption at those of its partition and of the requests that are replayed, and a read
 //! that was answered at once at none: it finds the adoption that it stands before by a binary search of its partition's.
+//!
+//! Of the slots of marks and of the adoptions, each list has no more room than was asked for, or than there are of them.
+//! Of a map, `ReservedMap` counts the room that was asked of it: std doesn't say how much a map makes at most.
 #![tactic(auto)]
 
 mod cut_epochs;

@@ -19,11 +19,11 @@ loop-rank-init c =
 
 pub unwrap-at-requires : goal.unwrap-at-requires
 unwrap-at-requires c =
-    rw (c.copied.ensures ∙ c.get.ensures.value ∙ c.requires.placed c.args.added.part c.loop-rank.rank)
+    rw (c.value_of.ensures ∙ c.requires.placed c.args.added.part c.loop-rank.rank)
     (place_is_some c.args.added.part c.loop-rank.rank c.args.epochs.now.items (omega (arith, c.loop-rank-test.true, c.requires.count)))
 
 place : (c : After-unwrap-at) → epoch_place c.args.added.part c.loop-rank.rank c.args.epochs.now.items ≡ Some c.unwrap-at.result
-place c = sym (c.copied.ensures ∙ c.get.ensures.value ∙ c.requires.placed c.args.added.part c.loop-rank.rank) ∙ c.unwrap-at.ensures
+place c = sym (c.value_of.ensures ∙ c.requires.placed c.args.added.part c.loop-rank.rank) ∙ c.unwrap-at.ensures
 
 ranked : (c : After-unwrap-at) → IsRanked c.args.added.part c.loop-rank.rank c.loop-rank.epochs.items c.unwrap-at.result
 ranked c =

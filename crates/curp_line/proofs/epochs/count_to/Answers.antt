@@ -24,12 +24,12 @@ within_ranks low high count many l m e = omega (arith, l, m, e)
 pub unwrap-at-requires : goal.unwrap-at-requires
 unwrap-at-requires c =
     let rank = middle c.loop-low.low c.loop-low.high in
-    rw (c.copied.ensures ∙ c.get.ensures.value ∙ c.requires.placed c.args.top.part rank)
+    rw (c.value_of.ensures ∙ c.requires.placed c.args.top.part rank)
     (place_is_some c.args.top.part rank c.args.epochs.now
     (within_ranks c.loop-low.low c.loop-low.high c.args.count _ c.loop-low-test.true c.loop-low.invariant.within c.requires.count))
 
 place : (c : After-unwrap-at) → epoch_place c.args.top.part (middle c.loop-low.low c.loop-low.high) c.args.epochs.now ≡ Some c.unwrap-at.result
-place c = sym (c.copied.ensures ∙ c.get.ensures.value ∙ c.requires.placed c.args.top.part (middle c.loop-low.low c.loop-low.high)) ∙ c.unwrap-at.ensures
+place c = sym (c.value_of.ensures ∙ c.requires.placed c.args.top.part (middle c.loop-low.low c.loop-low.high)) ∙ c.unwrap-at.ensures
 
 pub offset_bounds-epochs-at : goal.offset_bounds-epochs-at
 offset_bounds-epochs-at c =

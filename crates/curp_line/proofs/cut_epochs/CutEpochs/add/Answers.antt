@@ -1,5 +1,5 @@
 use Rattle.std.proofs.Common.{◌≡◌, ◌+◌, ◌==◌, ℕ, true, length, ap, sym, ◌∙◌, arith}
-use Rattle.std.specs.HashMap.{get}
+use Rattle.std.specs.Map.{lookup}
 use Rattle.curp_line.specs.Cuts.{how_many, is_epoch_of}
 use Rattle.curp_line.proofs.Ascending.{how_many_all, how_many_most}
 use Rattle.curp_line.proofs.Ranks.{ranked_push}
@@ -27,8 +27,6 @@ overflow_add-count c =
 pub invariant_of-self : goal.invariant_of-self
 invariant_of-self c =
     let before = (goal.at.invariant_of-self c).After-len-place in
-    let places = rw c.unwrap.ensures at c.insert-placed.ensures.updates in
-    let counts = rw c.unwrap-2.ensures at c.insert-counted.ensures.updates in
-    ranked_push (λ part. get (λ (a b : ℕ). a == b) c.self.inside.counts part) (λ part. get (λ (a b : ℕ). a == b) c.insert-counted.new.self part)
-    c.self.inside.places c.insert-placed.new.self c.self.inside.epochs.items c.add_epoch.new.epochs.items c.args.added c.count_of-count.result _
-    (counted before) (omega (arith, long before)) c.add_epoch.ensures.parts c.add_epoch.ensures.counted c.add_epoch.ensures.ascend counts.0 places.0 c.self.invariant
+    ranked_push (λ part. lookup (λ (key : ℕ). part == key) c.self.inside.counts.items) (λ part. lookup (λ (key : ℕ). part == key) c.put-2.new.self.items)
+    c.self.inside.places.items c.put.new.self.items c.self.inside.epochs.items c.add_epoch.new.epochs.items c.args.added c.count_of-count.result _
+    (counted before) (omega (arith, long before)) c.add_epoch.ensures.parts c.add_epoch.ensures.counted c.add_epoch.ensures.ascend c.put-2.ensures.found c.put.ensures.found c.self.invariant

@@ -4,4 +4,4 @@ use Rattle.curp_line.proofs.cut_epochs.CutEpochs.place_of.Goals as goal
 
 pub returns : goal.returns
 returns c =
-    c.copied.ensures ∙ c.get.ensures.value ∙ c.self.invariant.placed c.args.part c.args.rank ∙ ap (λ e. epoch_place c.args.part c.args.rank e.epochs) c.self.view_is
+    c.value_of.ensures ∙ c.self.invariant.placed c.args.part c.args.rank ∙ ap (λ e. epoch_place c.args.part c.args.rank e.epochs) c.self.view_is

@@ -7,8 +7,8 @@ invariant_of-self c = rw c.reserve.ensures.items c.self.invariant
 
 pub invariant_of-self-in_err-reserve-2 : goal.invariant_of-self-in_err-reserve-2
 invariant_of-self-in_err-reserve-2 c =
-    rw c.reserve.ensures.items (ranked_same _ _ _ _ _ (λ part. refl) c.reserve-2.ensures.entries.2 c.self.invariant)
+    rw c.reserve.ensures.items (ranked_same _ _ _ _ _ (λ part. refl) c.reserve-2.ensures.found c.self.invariant)
 
 pub invariant_of-self-2 : goal.invariant_of-self-2
 invariant_of-self-2 c =
-    rw c.reserve.ensures.items (ranked_same _ _ _ _ _ c.reserve-3.ensures.entries.2 c.reserve-2.ensures.entries.2 c.self.invariant)
+    rw c.reserve.ensures.items (ranked_same _ _ _ _ _ c.reserve-3.ensures.found c.reserve-2.ensures.found c.self.invariant)
