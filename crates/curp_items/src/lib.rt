@@ -5,8 +5,9 @@
 //! back, whatever follows it, what is read is encoded so, and no encoding begins another: once for each of these
 //! (`proofs/Formats`, `Combining`). `Items.antt` is the table, a line an item.
 //!
-//! - `pack_entry` encodes an entry, where `encoded` says that it has an encoding; `read_entry` is exact, with the place of
-//!   the fault; `read_request` reads the request of an Op. `laws`: no entry's encoding begins another's.
+//! - `pack_entry` encodes an entry that has an encoding. `encoded` tells how long the entry's encoding is with which bytes
+//!   begin, `read_entry` reads that entry, and `read_request` the request of an Op: exact, and `read_entry` with the place
+//!   of the fault. `laws`: no entry's encoding begins another's.
 //! - `Reader`, `Writer`, `Item`, `read_list`, `read_package` and the others are what frames are read and written with.
 #![tactic(auto)]
 

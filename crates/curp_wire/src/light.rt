@@ -1,4 +1,4 @@
-//! Which messages are light: those that may be written as frames.
+//! Which messages are light: such a message has a frame for sure. Others may have one too.
 ghost use Rattle.std.specs.Prelude.{◌≡◌};
 ghost use Rattle.std.specs.List.{list_all};
 ghost use Rattle.curp_items.specs.Items.{is_node};
@@ -13,7 +13,7 @@ use curp_cmd::{Answer, Entry, NodeId, Package, Request, RequestId};
 use curp_items::is_node;
 use curp_msg::{Body, Config, FenceReply, GcAnswer, Message, PartConfig, Reason, Recover, weight};
 
-/// Whether `encode` takes the message: it weighs at most 20,000, the client numbers in its ids and packages are at most
+/// Whether `encode_light` takes the message: it weighs at most 20,000, the client numbers in its ids and packages are at most
 /// 64, it has at most 16 partitions and at most 5 nodes in a list, and the manager alone has the number 0. It reads the
 /// whole message once. (This project's own rule, so that no frame is too long.)
 pub fn is_light(message: &Message) -> bool
