@@ -1,4 +1,4 @@
-ghost use Rattle.std.specs.Prelude.{◌≡◌, ◌+◌, ◌<◌, ◌≤◌, ◌^◌, [], ◌∷◌, ◌++◌, false, length, filter, not, IfOk, OnOk};
+ghost use Rattle.std.specs.Prelude.{◌≡◌, ◌+◌, ◌<◌, ◌≤◌, ◌^◌, [], ◌∷◌, ◌++◌, false, length, max, filter, not, IfOk, OnOk};
 ghost use Rattle.curp_model.specs.Marks.{adopted, adoptions, cut_mark, executed, flagged, has_completed, is_cut};
 ghost use Rattle.curp_model.specs.Marks.{is_dropped, looked, quick, replayed_marks, shown, with_quick};
 
@@ -14,8 +14,8 @@ use std::alloc::Global;
 use std::marker::Model;
 
 /// The marks of which the order that the world shows is made, in that order: an update's at its index in a log, a read's
-/// at a capture or where it was answered at once, and an adoption's. Contracts see them, and for how many more there is
-/// room.
+/// at a capture or where it was answered at once, and an adoption's. Contracts see them, how many slots or adoptions are
+/// held, for how many more there is room, and for how many in the list or map that has the most of it.
 ///
 /// The marks of requests and those of adoptions are kept apart, in the order in which they came. A mark of a request
 /// tells how many of the adoptions it stands behind, so that one which comes late, before an adoption, moves no other
@@ -38,7 +38,7 @@ impl Drop for Line {
 }
 
 impl Model for Line {
-    ghost use Rattle.std.specs.Prelude.{length, min};
+    ghost use Rattle.std.specs.Prelude.{length, max, min};
     ghost use Rattle.curp_base.specs.Words.{Each};
     ghost use Rattle.curp_line.specs.Content.{Marking};
     ghost use Rattle.curp_line.specs.Slots.{StandsWithin, marks_from};
@@ -47,7 +47,9 @@ impl Model for Line {
 
     ghost view = { λ l. record {
       marks = marks_from 0 l.cuts.cuts l.slots.slots;
+      held = max (length l.slots.slots) (length l.cuts.cuts);
       spare = min l.slots.spare l.cuts.spare;
+      most = max l.slots.most l.cuts.most;
     } };
 
     ghost invariant = { λ l. Each (StandsWithin (length l.cuts.cuts)) l.slots.slots };
@@ -65,12 +67,14 @@ impl Line {
         }
     }
 
-    /// Makes room for so many more marks. There is no room for more than 9 * 2^28 requests in all. What has come is moved
-    /// only when its room doubles, so it costs no more than the marks that come, taken all together.
+    /// Makes room for so many more marks, or for as many as are held where that is more. There is no room for more than
+    /// 9 * 2^28 requests in all. What has come is moved only when its room doubles, so it costs no more than the marks that
+    /// come, taken all together.
     pub fn reserve(&mut self, marks: u64) -> Result<(), NoMemory>
         ensures marks { self.new.marks ≡ self.old.marks }
         ensures room { OnOk result (marks ≤ self.new.spare) }
         ensures kept { self.old.spare ≤ self.new.spare }
+        ensures no_more { self.new.most ≤ max self.old.most (max marks self.old.held) }
     {
         self.slots.reserve(marks as usize)?;
         self.cuts.reserve(marks as usize)
