@@ -63,8 +63,8 @@ fn give<N: Core>(node: &mut N, input: Input, network: &mut Network) -> Result<Op
     let Done {
         refused,
         sent,
-        invoked: _,
         completed,
+        ..
     } = node.on(input)?;
     for message in sent.into_vec() {
         network.send(message)?;
