@@ -52,8 +52,9 @@
 //! | `Nudge` | the manager | what it sent may be lost, as after it was opened again: it sends again all that it waits for |
 //! | `Migrate`, `Expire` | the manager | hashes are to move; a client is gone for good |
 //!
-//! Each order to a client or the manager is a call too, as `invoke` of a `ClientNode` and `recover` of a `ManagerNode`: what
-//! refuses it is a reason there (`InvokeError`, `RecoverError`), `Because` of which the call `Failed`, and no number. A node behind a journal takes orders alone.
+//! Each order to a client or the manager is a call too, as `invoke` of a `ClientNode` and `recover` of a `ManagerNode`: it
+//! fails by `Failed` of the reason that refuses it (`InvokeError`, `RecoverError`), whose `number` is that of the order
+//! (`Numbered`). A node behind a journal takes orders alone.
 //!
 //! The nodes have no policy of their own. That of `curp live` has its numbers in `policy`, and its code in
 //! `curp_live/src/chores.rt`: a client has at most `PENDING_AT_ONCE` requests pending, and retries all of them in order
