@@ -1,9 +1,10 @@
 //! One that comes to a node, as bytes.
-ghost use Rattle.std.specs.Prelude.{◌≡◌, ◌≤◌, ◌<◌, ◌^◌, ◌∷◌, ◌++◌, length, Err, OnOk};
+ghost use Rattle.std.specs.Prelude.{◌≡◌, false, ◌≤◌, ◌<◌, ◌^◌, ◌∷◌, ◌++◌, length, Err, OnOk};
 ghost use Rattle.curp_items.specs.Calls.{ReadsIfMemory};
 ghost use Rattle.curp_batches.specs.Arrivals as format;
 ghost use Rattle.curp_batches.specs.Arrivals.{arrival, frame, named, stamped};
 ghost use Rattle.curp_batches.specs.Prefixes.{Begins, IsErrorOf, ReadsPrefix};
+ghost use Rattle.curp_wire.specs.Frame.{has_frame};
 
 use crate::error::{NoEncoding, encoding_error};
 use crate::order::{read_order, write_order};
@@ -43,7 +44,7 @@ pub fn write_arrival(
     }
 }
 
-#[tactic(auto, unfolding(crate::specs::Arrivals::named, crate::specs::Arrivals::name, crate::specs::Arrivals::frame), using(crate::proofs::Encodings::frame_fits, crate::proofs::Encodings::frame_text, crate::proofs::Encodings::no_sender, crate::proofs::Encodings::unframed))]
+#[tactic(auto, unfolding(crate::specs::Arrivals::named, crate::specs::Arrivals::name), using(crate::proofs::Encodings::no_sender, crate::proofs::Encodings::unframed))]
 fn write_named(alloc: Global, sent: &Named, out: &mut Writer) -> Result<(), Failed<NoEncoding>>
     ensures writes { OnOk result (out.new ≡ record {
       prefix = out.old.prefix;
@@ -56,8 +57,27 @@ fn write_named(alloc: Global, sent: &Named, out: &mut Writer) -> Result<(), Fail
     if !is_node(&sent.from) {
         return Err(Failed::Because(NoEncoding));
     }
-    let frame = encode(alloc, &sent.message).map_err(encoding_error)?;
     (sent.from, (sent.step, (sent.place, sent.stamp))).write(out)?;
+    write_frame(alloc, &sent.message, out)
+}
+
+/// Writes a message's frame. After an error, what was written is not to be used.
+#[tactic(auto, unfolding(crate::specs::Arrivals::frame), using(crate::proofs::Encodings::frame_fits, crate::proofs::Encodings::frame_text))]
+pub fn write_frame(
+    alloc: Global,
+    message: &Message,
+    out: &mut Writer,
+) -> Result<(), Failed<NoEncoding>>
+    ensures writes { OnOk result (out.new ≡ record {
+      prefix = out.old.prefix;
+      text = out.old.text
+          ++ frame.of message.now;
+    }) }
+    ensures fits { OnOk result (frame.Fits message.now) }
+    // Then there is none.
+    ensures none { result ≡ Err (Failed.Because (record {})) → has_frame message.now ≡ false }
+{
+    let frame = encode(alloc, message).map_err(encoding_error)?;
     out.bytes(&frame)?;
     Ok(())
 }

@@ -12,7 +12,7 @@ use thiserror::Error;
 pub struct NoEncoding;
 
 /// Why what holds a message isn't written, by why that message isn't.
-pub fn encoding_error(why: Failed<NoFrame>) -> Failed<NoEncoding>
+pub(crate) fn encoding_error(why: Failed<NoFrame>) -> Failed<NoEncoding>
     ensures { result ≡ encoding_error why }
 {
     match why {

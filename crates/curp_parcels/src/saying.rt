@@ -12,11 +12,10 @@ ghost use Rattle.curp_wire.specs.Frame.{has_frame};
 use crate::framing::parcel_of;
 use crate::outgoing::{Outgoing, is_capture};
 use curp_base::{Failed, NoMemory};
-use curp_batches::{NoEncoding, encoding_error, frame_at};
+use curp_batches::{NoEncoding, frame_at, write_frame};
 use curp_cmd::NodeId;
 use curp_items::{Fault, Item, Reader, Writer};
 use curp_msg::{Capture, Completed, Message};
-use curp_wire::encode;
 use std::alloc::{AllocError, Global};
 
 /// The parcel of what the process of a node says.
@@ -79,7 +78,7 @@ fn write(alloc: Global, said: &Outgoing, out: &mut Writer) -> Result<(), Failed<
     Ok(())
 }
 
-#[tactic(auto, unfolding(crate::specs::Outgoing::sent, crate::specs::Outgoing::name, curp_batches::specs::Arrivals::frame), using(curp_batches::proofs::Encodings::frame_fits, curp_batches::proofs::Encodings::frame_text))]
+#[tactic(auto, unfolding(crate::specs::Outgoing::sent, crate::specs::Outgoing::name))]
 fn write_sent(
     alloc: Global,
     name: (u64, (u64, u64)),
@@ -90,10 +89,8 @@ fn write_sent(
     ensures fits { OnOk result (sent.Fits (name, message.now)) }
     ensures none { result ≡ Err (Failed.Because (record {})) → has_frame message.now ≡ false }
 {
-    let frame = encode(alloc, message).map_err(encoding_error)?;
     name.write(out)?;
-    out.bytes(&frame)?;
-    Ok(())
+    write_frame(alloc, message, out)
 }
 
 #[tactic(auto, unfolding(crate::specs::Outgoing::completion))]
