@@ -1,5 +1,5 @@
 -- The lines of a script, as JSON.
-use Rattle.std.specs.Prelude.{ℕ, ◌-◌, ◌^◌, ◌==◌, ◌&&◌, nat_lt, if◌then◌else◌, Bool, true, not, List, [], ◌∷◌, length, Option, Some, None, is_some, option_and_then, option_map, unwrap_or, Result, Ok, Err, ⊤}
+use Rattle.std.specs.Prelude.{ℕ, ◌-◌, ◌^◌, ◌&&◌, nat_lt, if◌then◌else◌, Bool, true, not, List, [], ◌∷◌, length, Option, Some, None, is_some, option_and_then, option_map, unwrap_or, Result, Ok, Err, ⊤}
 use Rattle.std.specs.List.{list_any}
 use Rattle.std.specs.Option.{ok_or}
 use Rattle.std.specs.Str.{bytes_eq, is_utf8}

@@ -79,7 +79,10 @@ impl LineReader {
         ensures reads { Gives (event_in line.now) result }
     {
         let object = parse_object(self.alloc, &mut self.scratch, line)?;
-        event_of(&object).map_err(Failed::Because)
+        match event_of(&object) {
+            Ok(line) => Ok(line),
+            Err(reason) => Err(Failed::Because(reason)),
+        }
     }
 
     /// A line of orders for a manager whose journal is kept, or why it is none. `NoMemory` says nothing of the line.
