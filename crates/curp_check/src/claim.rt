@@ -1,11 +1,11 @@
-ghost use Rattle.std.specs.Prelude.{◌≡◌, ◌↔◌, ◌++◌, [], ◌∷◌, Some, Ok, Err, OnOk, OnErr};
+ghost use Rattle.std.specs.Prelude.{◌≡◌, ◌↔◌, ◌++◌, [], ◌∷◌, Some, Ok, Err, OnOk, OnErr, IfErr};
 ghost use Rattle.std.specs.BTreeMap.{Updates};
 ghost use Rattle.curp_cmd.specs.RequestId.{id_cmp};
 ghost use Rattle.curp_order.specs.Order.{IsHistory};
 ghost use Rattle.curp_order.specs.declared.Event as order;
 ghost use Rattle.curp_check.specs.Claim.{nothing_claimed, with_event, with_line};
 ghost use Rattle.curp_check.specs.Stages.{request_of, stage_after};
-ghost use Rattle.curp_script.specs.declared.error.LineError as script;
+ghost use Rattle.curp_script.specs.Failing.{IfBecause};
 
 use curp_base::{Failed, NoMemory};
 use curp_cmd::{Command, RequestId};
@@ -72,8 +72,7 @@ impl Claim {
     /// bad `id`. Where it is refused, nothing is changed.
     pub fn add(&mut self, line: &EventLine) -> Result<(), Failed<LineError>>
         ensures added { OnOk result (with_line self.old line.now ≡ Ok self.new) }
-        ensures refused { (reason : script.LineError) → result ≡ Err (Failed.Because reason)
-            → with_line self.old line.now ≡ Err reason }
+        ensures refused { IfErr result (IfBecause (λ reason. with_line self.old line.now ≡ Err reason)) }
         ensures err { OnErr result (self.new ≡ self.old) }
         ensures bad_id { (e : order.Event) → line.now ≡ EventLine.Event e → self.old.order ≡ []
             → (with_line self.old line.now ≡ Err (LineError.BadField FieldName.Id))
@@ -107,8 +106,7 @@ impl Claim {
 impl Claim {
     fn add_event(&mut self, event: &Event) -> Result<(), Failed<LineError>>
         ensures added { OnOk result (with_event self.old event.now ≡ Ok self.new) }
-        ensures refused { (reason : script.LineError) → result ≡ Err (Failed.Because reason)
-            → with_event self.old event.now ≡ Err reason }
+        ensures refused { IfErr result (IfBecause (λ reason. with_event self.old event.now ≡ Err reason)) }
         ensures err { OnErr result (self.new ≡ self.old) }
         ensures is_history { IsHistory self.old.events }
     {

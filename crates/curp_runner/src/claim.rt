@@ -4,8 +4,8 @@ ghost use Rattle.curp_io.specs.Streams.{HoldsPart};
 ghost use Rattle.curp_check.specs.Claim.{ClaimText, Claimed, IsClaimOfOrder, claim_in, claim_limit, nothing_claimed, with_read};
 ghost use Rattle.curp_check.specs.declared.verdict.Clause.{Clause};
 ghost use Rattle.curp_script.specs.Events.{event_in};
+ghost use Rattle.curp_script.specs.Failing.{IfBecause};
 ghost use Rattle.curp_script.specs.Script.{Whole};
-ghost use Rattle.curp_script.specs.declared.error.LineError as script;
 ghost use Rattle.curp_runner.specs.Reading.{IsBehind, IsOfReading, IsOfWriting};
 ghost use Rattle.curp_runner.specs.Status.{ended, is_cut_short};
 ghost use Rattle.curp_runner.specs.Check.{EndsAs, EndsJudged, GivesLineOf, IsBrokenClaim, IsJudgedPrefix, StopsAt, after_line, claim_due, is_verdict, status_of_verdict, verdict_text};
@@ -196,8 +196,7 @@ fn add_text(
     claim: &mut Claim,
 ) -> Result<(), Failed<LineError>>
     ensures added { OnOk result (with_read claim.old (event_in text.now) ≡ Ok claim.new) }
-    ensures refused { (reason : script.LineError) → result ≡ Err (Failed.Because reason)
-        → with_read claim.old (event_in text.now) ≡ Err reason }
+    ensures refused { IfErr result (IfBecause (λ reason. with_read claim.old (event_in text.now) ≡ Err reason)) }
 {
     let line = line_reader.parse_event(text)?;
     claim.add(&line)

@@ -8,3 +8,8 @@ abbrev pub Gives : {A E : Type 0} → Result A E → Result A (Failed E) → Typ
 Gives due (Ok x) = due ≡ Ok x
 Gives due (Err failed.NoMemory) = ⊤
 Gives due (Err (failed.Because reason)) = due ≡ Err reason
+
+-- P holds of the reason for which a call failed, if there was memory
+abbrev pub IfBecause : {E : Type 0} → (E → Type 0) → Failed E → Type 0
+IfBecause P failed.NoMemory = ⊤
+IfBecause P (failed.Because reason) = P reason

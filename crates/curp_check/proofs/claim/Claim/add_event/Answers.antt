@@ -5,7 +5,6 @@ use Rattle.curp_check.proofs.Stages.{followed_or_not, may, may_not, no_items, no
 use Rattle.curp_check.specs.Claim.{Claimed}
 use Rattle.curp_check.specs.Stages.{stage_after, stage_of}
 use Rattle.curp_check.proofs.claim.Claim.add_event.Goals as goal
-use Rattle.curp_check.proofs.claim.Claim.add_event.Goals.{in-Ok, in-Err}
 
 pub returns-in_default-clause-refused : goal.returns-in_default-clause-refused
 returns-in_default-clause-refused c = λ _.
@@ -24,16 +23,10 @@ invariant_of-self c =
     followed_or_not c.push_event.result c.self.inside.stages c.push_event.new.stages events c.push_event.new.history.items e c.in-Some.stage c.self.invariant some
     c.push_event.ensures.history c.push_event.ensures.stages c.push_event.ensures.history_stays c.push_event.ensures.stages_stay
 
-pub returns-clause-added : goal.returns-clause-added
-returns-clause-added c =
+pub invariant_of-self-2 : goal.invariant_of-self-2
+invariant_of-self-2 c =
     let events = c.self.inside.history.items in
-    let order = c.self.inside.order.items in
-    let claim : Claimed = record { events = events; order = order } in
     let e = c.args.event.now in
     let some = sym (c.stage_after.ensures ∙ ap (stage_after e) (c.copied.ensures ∙ c.get.ensures.value ∙ c.self.invariant.stage _ ∙ ap (stage_of events) c.request_of-id.ensures)) ∙ c.in-Some.is in
-    elim c.match-push_event.branch [
-      | in-Ok w ↦ rw (w.result-is, ← c.self.view_is)
-          (taken claim e (no_items order (grind (arith, nat_tests, c.is_empty.ensures, c.if-not-is_empty.false))) (may events e c.in-Some.stage some)
-          ∙ ap (λ (es : List Event). Ok (record { events = es; order = order })) (sym (rw w.in-Ok.is at c.push_event.ensures.history)))
-      | in-Err w ↦ rw w.result-is tt
-    ]
+    followed_or_not c.push_event.result c.self.inside.stages c.push_event.new.stages events c.push_event.new.history.items e c.in-Some.stage c.self.invariant some
+    c.push_event.ensures.history c.push_event.ensures.stages c.push_event.ensures.history_stays c.push_event.ensures.stages_stay
