@@ -9,6 +9,7 @@ ghost use Rattle.json.specs.Value.{value_view, items_view, members_view};
 ghost use Rattle.serde_json.specs.Data.{no_members};
 ghost use Rattle.serde_json.specs.Find.{get, as_null, as_bool, as_number, as_u64, as_str, as_array, as_object};
 ghost use Rattle.serde_json.specs.Read.{max_depth};
+ghost use Rattle.curp_script.specs.Failing.{IfBecause};
 ghost use Rattle.curp_script.specs.Grammar.{object_in, listed, has_only, is_one_of};
 ghost use Rattle.curp_script.specs.Values.{value_data, values_data, is_readable, are_items_readable, are_members_readable};
 ghost use Rattle.curp_script.specs.Text.{field_text};
@@ -30,8 +31,8 @@ pub(crate) fn parse_object<'a>(
     line: &'a [u8],
 ) -> Result<Json<'a>, Failed<LineError>>
     ensures ok { IfOk result (λ object. object_in line.now ≡ Some (value_data object)) }
-    ensures err { IfErr result (λ failed. failed ≢ Failed.NoMemory
-        → (failed ≡ Failed.Because LineError.BadJson) × (object_in line.now ≡ None)) }
+    ensures err { IfErr result (IfBecause (λ reason.
+        (reason ≡ LineError.BadJson) × (object_in line.now ≡ None))) }
 {
     let Ok(text) = std::str::from_utf8(line) else {
         return Err(NO_OBJECT);
