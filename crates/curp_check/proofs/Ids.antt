@@ -1,5 +1,5 @@
 -- Requests as the keys of a map.
-use Rattle.std.proofs.Common.{◌≡◌, Bool, true, ap, is_eq}
+use Rattle.std.proofs.Common.{◌≡◌, true, ap, is_eq}
 use Rattle.std.proofs.lemmas.Cmp.{tied_itself}
 use Rattle.std.proofs.lemmas.Map.Views.{tells_apart}
 use Rattle.curp_cmd.specs.RequestId.{id_cmp}

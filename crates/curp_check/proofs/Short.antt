@@ -1,5 +1,5 @@
 -- An order has no more requests than its history has events: each was invoked, and none stands twice.
-use Rattle.std.proofs.Common.{◌≡◌, ◌≤◌, ◌||◌, ◌∙◌, rules, ℕ, zero, suc, List, [], ◌∷◌, length, map, Bool, true, false, Some, refl, ap, sym, subst, arith}
+use Rattle.std.proofs.Common.{◌≡◌, ◌≤◌, ◌∙◌, rules, ℕ, zero, suc, List, [], ◌∷◌, length, map, true, false, Some, refl, ap, sym, subst, arith}
 use Rattle.std.specs.Cmp.{IsEquivalence}
 use Rattle.std.specs.Cmp.Rules.{comparing}
 use Rattle.std.specs.List.{AllByRecursion, IsDistinct, list_any}

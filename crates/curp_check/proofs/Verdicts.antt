@@ -2,7 +2,6 @@
 use Rattle.std.proofs.Common.{◌≡◌, ◌<◌, ℕ, List, length, Some, sym, ap, ◌∙◌, arith}
 use Rattle.curp_base.specs.Words.{At, Each}
 use Rattle.curp_base.proofs.Lists.{Each-at, Each-from_at, at_within}
-use Rattle.curp_cmd.specs.declared.command.Answer.{Answer}
 use Rattle.curp_cmd.specs.declared.command.RequestId.{RequestId}
 use Rattle.curp_order.specs.Order.{IsOrder, answers, Asked}
 use Rattle.curp_order.specs.declared.Event.{Event}
@@ -11,7 +10,6 @@ use Rattle.curp_check.specs.Found.{AreInTime, Finder, FindsPlaces, HasAnswerOfPl
 use Rattle.curp_check.specs.Verdict.{AreInvoked, EachIsAnswered, EachIsInTime, EachStands, Holds, IsFirstBroken, number_of}
 use Rattle.curp_check.specs.declared.verdict.Clause.{Clause}
 use Rattle.curp_check.specs.declared.verdict.Clause.TheVariants.{Invoked, Stands, Answered, InTime}
-use Rattle.curp_check.specs.declared.verdict.Verdict.TheVariants as verdict
 
 module _ (events : List Event) (order : List Asked) where
   -- ---- the first clause

@@ -1,7 +1,5 @@
 use Rattle.std.proofs.Common.{take}
-use Rattle.std.specs.BTreeMap.{get}
 use Rattle.curp_base.specs.Words.{Each}
-use Rattle.curp_cmd.specs.RequestId.{id_cmp}
 use Rattle.curp_check.specs.Found.{IsInvoked}
 use Rattle.curp_check.proofs.judge.all_invoked.Given as goal
 

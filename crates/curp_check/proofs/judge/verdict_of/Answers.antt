@@ -1,4 +1,3 @@
-use Rattle.std.proofs.Common.{rules}
 use Rattle.std.specs.BTreeMap.{get}
 use Rattle.curp_cmd.specs.RequestId.{id_cmp}
 use Rattle.curp_check.proofs.Tests.{fails, yes}

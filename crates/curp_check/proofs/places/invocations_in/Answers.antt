@@ -1,4 +1,4 @@
-use Rattle.std.proofs.Common.{refl, ap, ◌∙◌}
+use Rattle.std.proofs.Common.{ap}
 use Rattle.std.specs.BTreeMap.{get}
 use Rattle.curp_cmd.specs.RequestId.{id_cmp}
 use Rattle.curp_check.proofs.Finding.{no_invocation, one_invocation}

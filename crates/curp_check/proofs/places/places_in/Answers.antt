@@ -1,4 +1,4 @@
-use Rattle.std.proofs.Common.{rules, get_or, is_some, Option, Some, None, true, false, ℕ, ◌≡◌, ◌∙◌, refl, sym, ap}
+use Rattle.std.proofs.Common.{get_or, is_some, Option, Some, None, true, false, ℕ, ◌≡◌, ◌∙◌, refl, sym}
 use Rattle.std.specs.BTreeMap.{get}
 use Rattle.curp_cmd.specs.RequestId.{id_cmp}
 use Rattle.curp_check.proofs.Finding.{found_twice, one_place}

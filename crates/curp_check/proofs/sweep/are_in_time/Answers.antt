@@ -1,4 +1,4 @@
-use Rattle.std.proofs.Common.{◌≡◌, ◌+◌, ◌∙◌, Option, false, true, ℕ, sym, ap, subst}
+use Rattle.std.proofs.Common.{◌+◌, ◌∙◌, Option, ℕ, sym, ap, subst}
 use Rattle.std.specs.BTreeMap.{get}
 use Rattle.curp_base.specs.Words.{At}
 use Rattle.curp_cmd.specs.RequestId.{id_cmp}

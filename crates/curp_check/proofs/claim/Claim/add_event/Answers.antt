@@ -1,13 +1,12 @@
-use Rattle.std.proofs.Common.{◌≡◌, ◌∙◌, ◌++◌, [], ◌∷◌, Ok, Some, List, arith, sym, ap}
+use Rattle.std.proofs.Common.{◌∙◌, arith, sym, ap}
 use Rattle.std.proofs.lemmas.Bool.Decides.{nat_tests}
-use Rattle.curp_order.specs.declared.Event.{Event}
-use Rattle.curp_check.proofs.Stages.{followed_or_not, may, may_not, no_items, not_taken, taken}
+use Rattle.curp_check.proofs.Stages.{followed_or_not, may_not, no_items, not_taken}
 use Rattle.curp_check.specs.Claim.{Claimed}
 use Rattle.curp_check.specs.Stages.{stage_after, stage_of}
 use Rattle.curp_check.proofs.claim.Claim.add_event.Goals as goal
 
 pub returns-in_default-clause-refused : goal.returns-in_default-clause-refused
-returns-in_default-clause-refused c = λ _.
+returns-in_default-clause-refused c =
     let events = c.self.inside.history.items in
     let order = c.self.inside.order.items in
     let claim : Claimed = record { events = events; order = order } in
