@@ -312,7 +312,7 @@ followed_or_not (Err _) old new events later e s f some longer updates same stay
     subst (λ (es : List Event). IsFollowed (get id_cmp new) es) (sym same)
     (record { is_history = f.is_history; stage = λ id. ap (lookup (is_at (id_cmp id))) stay ∙ f.stage id })
 
--- one that may not come is refused
+-- an event that may not come is refused
 pub not_taken : (claim : Claimed) (e : Event) → claim.order ≡ [] → may_follow claim.events e ≡ false → with_event claim e ≡ Err (BadField field.Id)
 not_taken claim e empty may = rw (empty, may) refl
 
