@@ -5,14 +5,13 @@ use Rattle.curp_io.proofs.Text.{lines_of_first}
 use Rattle.curp_io.specs.Streams.{one_more}
 use Rattle.curp_io.specs.Text.{GivesLine, Progress, RefusesLine, line_of, lines_of}
 use Rattle.curp_check.specs.Claim.{ClaimText, Claimed, claim_from, claim_limit, with_read}
-use Rattle.curp_check.specs.declared.verdict.Verdict.TheVariants as verdict
 use Rattle.curp_runner.specs.declared.status.Status.{Status}
 use Rattle.curp_runner.specs.declared.status.Status.TheVariants as status
 use Rattle.curp_runner.proofs.Scripts.{not_whole_long}
 use Rattle.curp_runner.specs.Check.{GivesLineOf, StopsAt, after_line, claim_due}
 use Rattle.curp_script.specs.Events.{event_in}
 use Rattle.curp_base.specs.Limits.{line_limit}
-use Rattle.curp_script.specs.Script.{Whole, TooLong}
+use Rattle.curp_script.specs.Script.{Whole}
 use Rattle.curp_script.specs.declared.error.LineError.{LineError}
 use Rattle.curp_script.specs.declared.event.EventLine.{EventLine}
 

@@ -198,6 +198,8 @@ fn add_text(
     ensures added { OnOk result (with_read claim.old (event_in text.now) ≡ Ok claim.new) }
     ensures refused { IfErr result (IfBecause (λ reason. with_read claim.old (event_in text.now) ≡ Err reason)) }
 {
-    let line = line_reader.parse_event(text)?;
-    claim.add(&line)
+    match line_reader.parse_event(text) {
+        Ok(line) => claim.add(&line),
+        Err(failed) => Err(failed),
+    }
 }

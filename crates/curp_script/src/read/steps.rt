@@ -1,4 +1,4 @@
-ghost use Rattle.std.specs.Prelude.{◌≡◌, IfOk, IfErr};
+ghost use Rattle.std.specs.Prelude.{◌≡◌, IfOk};
 ghost use Rattle.curp_script.specs.Failing.{Gives};
 ghost use Rattle.curp_script.specs.Grammar.{step_of, values_of};
 ghost use Rattle.curp_script.specs.Values.{value_data};
