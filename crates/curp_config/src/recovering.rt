@@ -45,9 +45,10 @@ impl Manager {
         ensures named { IfErr result (IfBecause (NamesPlaces backup witness)) }
     {
         let next = self.numbers_after_recovery();
-        let sources = self
-            .sources(part, backup, witness)
-            .map_err(Failed::Because)?;
+        let sources = match self.sources(part, backup, witness) {
+            Ok(sources) => sources,
+            Err(why) => return Err(Failed::Because(why)),
+        };
         let Some(next) = next else {
             return Ok(Done::quiet(self.alloc));
         };
