@@ -1,5 +1,5 @@
 -- What orders come to, once it is known whether they are refused and whether a number ends.
-use Rattle.std.proofs.Common.{◌≡◌, ℕ, ◌+◌, true, false, Ok, Err, Result, Option, refl, ap, sym, ◌∙◌}
+use Rattle.std.proofs.Common.{◌≡◌, ℕ, ◌+◌, true, false, Ok, Err, Result, Option, refl, ap, ◌∙◌}
 use Rattle.std.specs.Result.{IfErr, IsErr, IsErrAnd}
 use Rattle.curp_base.specs.declared.failed.Failed.{Failed}
 use Rattle.curp_base.specs.declared.failed.Failed.TheVariants as failed

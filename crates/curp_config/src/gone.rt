@@ -21,7 +21,10 @@ impl Manager {
         ensures moves { Moves self.old self.new result (model.manager_ordered self.old (local.Expire client)) }
         ensures refused { Tells expire_number (model.manager_ordered self.old (local.Expire client)).refused result }
     {
-        let known = self.known_client(client).map_err(Failed::Because)?;
+        let known = match self.known_client(client) {
+            Ok(known) => known,
+            Err(why) => return Err(Failed::Because(why)),
+        };
         let messages = self.gone_messages(known)?;
         note(&mut self.gone, known)?;
         Ok(Done::sends(messages))

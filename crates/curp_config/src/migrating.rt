@@ -24,7 +24,10 @@ impl Manager {
         ensures named { IfErr result (IfBecause (NamesMigration self.old.moving)) }
     {
         let next = self.numbers_after_migration();
-        let (owner, target) = self.movable(lo, hi, to).map_err(Failed::Because)?;
+        let (owner, target) = match self.movable(lo, hi, to) {
+            Ok(parts) => parts,
+            Err(why) => return Err(Failed::Because(why)),
+        };
         let Some(next) = next else {
             return Ok(Done::quiet(self.alloc));
         };

@@ -35,9 +35,10 @@ impl Manager {
         ensures named { IfErr result (IfBecause (NamesWork (numbered self.old.doing part))) }
     {
         let next = self.numbers_after_replacement(kind);
-        let entry = self
-            .replaceable(part, kind, place)
-            .map_err(Failed::Because)?;
+        let entry = match self.replaceable(part, kind, place) {
+            Ok(entry) => entry,
+            Err(why) => return Err(Failed::Because(why)),
+        };
         let Some(next) = next else {
             return Ok(Done::quiet(self.alloc));
         };

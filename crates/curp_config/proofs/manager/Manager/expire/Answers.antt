@@ -10,7 +10,7 @@ use Rattle.curp_config.proofs.manager.Manager.expire.Goals as goal
 
 pub returns-clause-moves : goal.returns-clause-moves
 returns-clause-moves c =
-    let known = c.in_ok-known.known in
+    let known = c.in-Ok.known in
     let g : ManagerState = record {
       shape = c.self.inside.shape;
       config = c.self.inside.config;
@@ -20,11 +20,11 @@ returns-clause-moves c =
       next = c.self.inside.next;
     } in
     let done : List Message → Done = λ (messages : List Message). record { refused = 0; sent = messages; invoked = None; completed = None } in
-    rw (expire_made c.args.self.now c.args.client known c.in_ok-known.ensures.ok) (
+    rw (expire_made c.args.self.now c.args.client known c.in-Ok.ensures.ok) (
       ap (λ (gone : List ℕ). record g { gone = gone }) c.in_ok-note.ensures.ok ∙ ap (λ (h : ManagerState). record h { gone = insert_key nat_cmp h.gone known }) c.self.view_is,
       c.sends.ensures ∙ ap done c.in_ok-messages.ensures,
     )
 
 pub returns-clause-refused : goal.returns-clause-refused
 returns-clause-refused c =
-    ap (λ (m : Moved ManagerState). m.refused) (expire_made c.args.self.now c.args.client c.in_ok-known.known c.in_ok-known.ensures.ok)
+    ap (λ (m : Moved ManagerState). m.refused) (expire_made c.args.self.now c.args.client c.in-Ok.known c.in-Ok.ensures.ok)
