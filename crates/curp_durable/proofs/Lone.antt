@@ -1,5 +1,5 @@
 -- One input alone.
-use Rattle.std.specs.Prelude.{◌≡◌, ◌≢◌, ◌+◌, ◌==◌, ◌^◌, nat_lt, Bool, true, false, [], None, refl}
+use Rattle.std.specs.Prelude.{◌≡◌, ◌≢◌, ◌+◌, ◌==◌, ◌^◌, nat_lt, Bool, true, false, refl}
 use Rattle.std.proofs.Common.{cond}
 use Rattle.std.proofs.lemmas.Bool.{eqb-false}
 use Rattle.curp_journal.specs.Given.{given}
@@ -17,8 +17,8 @@ use Rattle.curp_durable.specs.declared.stand.Answered.{Answered}
 use Rattle.curp_durable.specs.declared.stand.Answered.TheVariants as answered
 
 -- where the machine refuses, it does nothing else
-refused_alone : {N : Type 0} (m : Moved N) → (m.refused ≢ 0 → m.messages ≡ []) → (m.refused ≢ 0 → m.completed ≡ None) → m.refused ≢ 0 → refusal m.refused ≡ done_of m
-refused_alone m silent idle some = rw (silent some, idle some) refl
+refused_alone : {N : Type 0} (s : N) (m : Moved N) → Refuses s m → m.refused ≢ 0 → refusal m.refused ≡ done_of m
+refused_alone s m refuses some = rw (refuses.silent some, refuses.uninvoked some, refuses.idle some) refl
 
 module _ {N : Type 0} (m : Moved N) (item : Answered) (is : done_in item ≡ done_of m) (alone : m.refused ≢ 0 → refusal m.refused ≡ done_of m) where
   by_number : (none : Bool) → (m.refused == 0) ≡ none → done_in (cond none item (answered.Refused m.refused)) ≡ done_of m
@@ -31,7 +31,7 @@ module _ {N : Type 0} (m : Moved N) (item : Answered) (is : done_in item ≡ don
 
 module _ {N : Type 0} (machine : N → Input → Moved N) (refusals : (s : N) (order : Local) → Refuses s (machine s (input.Local order))) (taken : (s : N) (message : Message) → (machine s (input.Message message)).refused ≡ 0) where
   alone : (s : N) (a : Arrived) → (machine s (given a)).refused ≢ 0 → refusal (machine s (given a)).refused ≡ done_of (machine s (given a))
-  alone s (arrived.Local order stamp) some = refused_alone (machine s (input.Local order)) (refusals s order).silent (refusals s order).idle some
+  alone s (arrived.Local order stamp) some = refused_alone s (machine s (input.Local order)) (refusals s order) some
   alone s (arrived.Message named) some = absurd (some (taken s named.message))
 
   -- the answer says what is done
