@@ -7,7 +7,9 @@ use Rattle.curp_base.specs.Cases.{first_case, only_if}
 use Rattle.curp_base.specs.Words.{numbered}
 use Rattle.curp_cmd.specs.Node.{client_node, manager_node, master_node, same_node}
 use Rattle.curp_cmd.specs.declared.node.NodeId.{NodeId}
-use Rattle.curp_model.specs.World.{Deed, World, delivery, effect, has_node, is_stopped, is_too_much, kept, messages, order_in, order_of, refused, result_of, step, steps_by, subject, weight}
+use Rattle.curp_model.specs.World.{Deed, Gives, World, delivery, effect, has_node, is_stopped, is_too_much, kept, messages, moves, order_in, order_of, refused, result_of, step, steps_by, subject, taker_of, weight}
+use Rattle.curp_msg.specs.Input.{Input}
+use Rattle.curp_msg.specs.Input as input
 use Rattle.curp_msg.specs.Limits.{weight_limit}
 use Rattle.curp_msg.specs.Moved.{quiet}
 use Rattle.curp_msg.specs.declared.machine.Local.{Local}
@@ -18,8 +20,7 @@ use Rattle.curp_msg.specs.declared.outcome.StepResult.{StepResult}
 use Rattle.curp_msg.specs.declared.outcome.StepResult.TheVariants.{Done, Full, Gone, Manager, NoMessage, NoNode, Refused}
 use Rattle.curp_msg.specs.declared.script.Step.{Step}
 use Rattle.curp_msg.specs.declared.script.Step.TheVariants as steps
-use Rattle.curp_cluster.specs.Given.{CanGet, IsMessageTo, barrier, expires_nobody, gift_deed, goes, hands}
-use Rattle.curp_cluster.specs.declared.given.Gift.TheVariants as gift
+use Rattle.curp_cluster.specs.Given.{barrier, expires_nobody, goes, hands}
 
 -- ---- the result of what gives a node something
 
@@ -48,7 +49,7 @@ as_goes : (w : World) (deed : Deed) (there stopped much : Bool)
     ∷ only_if much (Full (weight w))
     ∷ only_if (not ((effect w deed).refused == 0)) (Refused (effect w deed).refused)
     ∷ []) Done
-    ≡ goes w deed (first_case (only_if (not there) (Some NoNode) ∷ only_if stopped (Some Gone) ∷ only_if much (Some (Full (weight w))) ∷ []) None)
+    ≡ goes (first_case (only_if (not there) (Some NoNode) ∷ only_if stopped (Some Gone) ∷ only_if much (Some (Full (weight w))) ∷ []) None) (effect w deed).refused
 as_goes w deed false stopped much = refl
 as_goes w deed true true much = refl
 as_goes w deed true false true = refl
@@ -64,17 +65,16 @@ not-false : (b : Bool) → not b ≡ false → b ≡ true
 not-false true is = refl
 not-false false is = absurd cc
 
-handed : (w : World) (to : NodeId) (order : Local)
-    → steps_by w (gift_deed w to (gift.Order order)) (causes_of w false (to ∷ []) (gift_deed w to (gift.Order order))) ≡ hands w to (gift.Order order)
+handed : (w : World) (to : NodeId) (given : Input)
+    → steps_by w (Gives to given) (causes_of w false (to ∷ []) (Gives to given)) ≡ hands w to given
 unfolding causes_of
-handed w to order =
-    let deed = gift_deed w to (gift.Order order) in
-    ap (steps_by w deed) (as_goes w deed (has_node w to) (is_stopped w to) (nat_lt weight_limit (weight w)))
+handed w to given =
+    ap (steps_by w (Gives to given)) (as_goes w (Gives to given) (has_node w to) (is_stopped w to) (nat_lt weight_limit (weight w)))
 
--- a step is the order that it gives, which its node may get
+-- a step is the order that it gives, to a node of the kind that the order is for
 abbrev pub IsOrdered : World → Step → Option (NodeId × Local) → Type 0
 IsOrdered w s None = ⊤
-IsOrdered w s (Some given) = (step w s ≡ hands w given.0 (gift.Order given.1)) × CanGet w given.0 (gift.Order given.1)
+IsOrdered w s (Some o) = (step w s ≡ hands w o.0 (input.Local o.1)) × (o.0.kind ≡ taker_of o.1)
 
 -- a delivery gives no order, whatever was sent
 no_order : (w : World) (s : Step) (o : Option Message) → IsOrdered w s (order_in (delivery o))
@@ -83,16 +83,16 @@ no_order w s (Some m) = tt
 
 pub orders : (w : World) (s : Step) → expires_nobody w s ≡ false → IsOrdered w s (order_of s)
 unfolding step causes_of
-orders w (steps.Invoke n command) there = (handed w (client_node n) (local.Invoke command), refl)
-orders w (steps.Retry n seq) there = (handed w (client_node n) (local.Retry seq), tt)
-orders w (steps.Fetch n) there = (handed w (client_node n) local.Fetch, tt)
-orders w (steps.Sync n) there = (handed w (master_node n) local.Sync, tt)
-orders w (steps.Collect n) there = (handed w (master_node n) local.Collect, tt)
-orders w (steps.Recover part backup witness) there = (handed w manager_node (local.Recover part backup witness), tt)
-orders w (steps.Replace keeper part place) there = (handed w manager_node (local.Replace keeper part place), tt)
-orders w (steps.Migrate lo hi to) there = (handed w manager_node (local.Migrate lo hi to), tt)
-orders w steps.Nudge there = (handed w manager_node local.Nudge, tt)
-orders w (steps.Expire n) there = (rw (not-false (has_node w (client_node n)) there) (handed w manager_node (local.Expire n)), tt)
+orders w (steps.Invoke n command) there = (handed w (client_node n) (input.Local (local.Invoke command)), refl)
+orders w (steps.Retry n seq) there = (handed w (client_node n) (input.Local (local.Retry seq)), refl)
+orders w (steps.Fetch n) there = (handed w (client_node n) (input.Local local.Fetch), refl)
+orders w (steps.Sync n) there = (handed w (master_node n) (input.Local local.Sync), refl)
+orders w (steps.Collect n) there = (handed w (master_node n) (input.Local local.Collect), refl)
+orders w (steps.Recover part backup witness) there = (handed w manager_node (input.Local (local.Recover part backup witness)), refl)
+orders w (steps.Replace keeper part place) there = (handed w manager_node (input.Local (local.Replace keeper part place)), refl)
+orders w (steps.Migrate lo hi to) there = (handed w manager_node (input.Local (local.Migrate lo hi to)), refl)
+orders w steps.Nudge there = (handed w manager_node (input.Local local.Nudge), refl)
+orders w (steps.Expire n) there = (rw (not-false (has_node w (client_node n)) there) (handed w manager_node (input.Local (local.Expire n))), refl)
 orders w (steps.Deliver number) there = no_order w (steps.Deliver number) (numbered [] number)
 orders w (steps.Stop node) there = tt
 
@@ -113,36 +113,30 @@ names_nobody w (steps.Deliver number) gone = absurd cc
 names_nobody w (steps.Stop node) gone = absurd cc
 
 delivered : (w : World) (o : Option Message) (m : Message) (to : NodeId) → o ≡ Some m → m.to ≡ to
-    → steps_by w (delivery o) (causes_of w (not (is_some o)) (subject (delivery o)) (delivery o)) ≡ steps_by w (delivery o) (goes w (delivery o) (barrier w to))
-unfolding causes_of
-delivered w o m to found addressee =
-    rw (found, ← addressee)
-    (ap (steps_by w (delivery (Some m))) (as_goes w (delivery (Some m)) (has_node w m.to) (is_stopped w m.to) (nat_lt weight_limit (weight w))))
+    → steps_by w (delivery o) (causes_of w (not (is_some o)) (subject (delivery o)) (delivery o)) ≡ hands w to (input.Message m)
+delivered w o m to found addressee = rw (found, ← addressee) (handed w m.to (input.Message m))
 
-pub delivers : (w : World) (number : ℕ) (to : NodeId) → IsMessageTo w number to → step w (steps.Deliver number) ≡ hands w to (gift.Message number)
+pub delivers : (w : World) (number : ℕ) (to : NodeId) (m : Message) → numbered (messages w) number ≡ Some m → m.to ≡ to
+    → step w (steps.Deliver number) ≡ hands w to (input.Message m)
 unfolding step causes_of
-delivers w number to sent = delivered w (numbered (messages w) number) sent.message to sent.found sent.addressee
+delivers w number to m found addressee = delivered w (numbered (messages w) number) m to found addressee
 
 -- where no message of that number was sent
 pub loses : (w : World) (number : ℕ) → numbered (messages w) number ≡ None → step w (steps.Deliver number) ≡ refused w NoMessage
 unfolding step
 loses w number none = rw none refl
 
-message_in : (w : World) (number : ℕ) (to : NodeId) (o : Option Message) → numbered (messages w) number ≡ o
-    → option_map (λ (m : Message). m.to) o ≡ Some to → IsMessageTo w number to
-message_in w number to None found is = absurd cc
-message_in w number to (Some m) found is = record { message = m; found = found; addressee = cc }
-
--- what was sent is there to be delivered
-pub message_to : (w : World) (number : ℕ) (to : NodeId)
-    → option_map (λ (m : Message). m.to) (numbered (messages w) number) ≡ Some to → IsMessageTo w number to
-message_to w number to is = message_in w number to (numbered (messages w) number) refl is
+-- the addressee of a message that was sent
+pub addressed : (o : Option Message) (m : Message) (to : NodeId) → option_map (λ (m : Message). m.to) o ≡ Some to → o ≡ Some m → m.to ≡ to
+addressed o m to is found =
+    let same : Some m.to ≡ Some to = sym (ap (option_map (λ (m : Message). m.to)) found) ∙ is in
+    cc
 
 pub no_message : (xs : Option Message) → option_map (λ (m : Message). m.to) xs ≡ None → xs ≡ None
 no_message None is = refl
 no_message (Some m) is = absurd cc
 
--- ---- what a barrier lets through
+-- ---- barriers
 
 passed_by : (w : World) (there stopped much : Bool)
     → first_case (only_if (not there) (Some NoNode) ∷ only_if stopped (Some Gone) ∷ only_if much (Some (Full (weight w))) ∷ []) None ≡ None → there ≡ true
@@ -152,6 +146,30 @@ passed_by w false stopped much is = absurd cc
 -- a node that gets something is there
 pub passed : (w : World) (to : NodeId) → barrier w to ≡ None → has_node w to ≡ true
 passed w to is = passed_by w (has_node w to) (is_stopped w to) (nat_lt weight_limit (weight w)) is
+
+barred_by : (w : World) (to : NodeId) (given : Input) (why : StepResult) (there stopped much : Bool)
+    → first_case (only_if (not there) (Some NoNode) ∷ only_if stopped (Some Gone) ∷ only_if much (Some (Full (weight w))) ∷ []) None ≡ Some why
+    → steps_by w (Gives to given) why ≡ refused w why
+barred_by w to given why false stopped much is = let same : NoNode ≡ why = cc in subst (λ (r : StepResult). steps_by w (Gives to given) r ≡ refused w r) same refl
+barred_by w to given why true true much is = let same : Gone ≡ why = cc in subst (λ (r : StepResult). steps_by w (Gives to given) r ≡ refused w r) same refl
+barred_by w to given why true false true is = let same : Full (weight w) ≡ why = cc in subst (λ (r : StepResult). steps_by w (Gives to given) r ≡ refused w r) same refl
+barred_by w to given why true false false is = absurd cc
+
+-- a node that is barred gets nothing
+pub barred : (w : World) (to : NodeId) (given : Input) (why : StepResult) → barrier w to ≡ Some why → hands w to given ≡ refused w why
+barred w to given why is =
+    ap (λ (o : Option StepResult). steps_by w (Gives to given) (goes o (moves w to given).refused)) is
+    ∙ barred_by w to given why (has_node w to) (is_stopped w to) (nat_lt weight_limit (weight w)) is
+
+-- nor where it is the addressee of a message
+pub kept_from : (w : World) (number : ℕ) (to : NodeId) (why : StepResult)
+    → option_map (λ (m : Message). m.to) (numbered (messages w) number) ≡ Some to → barrier w to ≡ Some why
+    → step w (steps.Deliver number) ≡ refused w why
+kept_from w number to why is bars = go (numbered (messages w) number) refl is
+  where
+    go : (o : Option Message) → numbered (messages w) number ≡ o → option_map (λ (m : Message). m.to) o ≡ Some to → step w (steps.Deliver number) ≡ refused w why
+    go None found is = absurd cc
+    go (Some m) found is = delivers w number to m found (addressed (Some m) m to is refl) ∙ barred w to (input.Message m) why bars
 
 -- ---- stops
 

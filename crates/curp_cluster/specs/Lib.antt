@@ -1,3 +1,4 @@
 pub mod Given
+pub mod Marked
 pub mod Marks
 pub mod Nodes

@@ -1,11 +1,9 @@
 -- The nodes of a world as they are kept.
 use Rattle.std.specs.Prelude.{◌≡◌, ℕ, ◌+◌, List, length}
 use Rattle.curp_cmd.specs.declared.node.Keeper.TheVariants as keeper
-use Rattle.curp_cmd.specs.declared.node.NodeId.{NodeId}
 use Rattle.curp_model.specs.Backup.{BackupState}
 use Rattle.curp_model.specs.Client.{ClientState}
 use Rattle.curp_model.specs.Manager.{ManagerState, Next}
-use Rattle.curp_model.specs.Marks.{Mark}
 use Rattle.curp_model.specs.Recovery.{MasterStage}
 use Rattle.curp_model.specs.Witness.{WitnessState}
 use Rattle.curp_model.specs.World.{World}
@@ -14,9 +12,7 @@ use Rattle.curp_msg.specs.Input.{Input}
 use Rattle.curp_msg.specs.Input as input
 use Rattle.curp_msg.specs.declared.machine.Local.{Local}
 use Rattle.curp_msg.specs.declared.machine.Local.TheVariants as local
-use Rattle.curp_msg.specs.declared.message.Message.{Message}
 use Rattle.curp_opening.specs.Nodes.{HasNumbers, IsAhead}
-use Rattle.curp_order.specs.declared.Event.{Event}
 
 -- ---- how they are numbered
 
@@ -89,20 +85,4 @@ with_nodes w nodes = record w {
   witnesses = nodes.witnesses;
   sets = nodes.sets;
   ways = nodes.ways;
-}
-
--- the world that nodes, messages, a history and marks are
-abbrev pub seen : NodeStates → List NodeId → List (List Message) → List Event → List Mark → World
-seen nodes stopped sent history marks = record {
-  clients = nodes.clients;
-  manager = nodes.manager;
-  masters = nodes.masters;
-  backups = nodes.backups;
-  witnesses = nodes.witnesses;
-  sets = nodes.sets;
-  ways = nodes.ways;
-  stopped = stopped;
-  sent = sent;
-  history = history;
-  marks = marks;
 }

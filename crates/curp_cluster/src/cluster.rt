@@ -1,20 +1,18 @@
-ghost use Rattle.std.specs.Prelude.{◌≡◌, ◌≤◌, ◌<◌, ◌^◌, ◌++◌, ◌+◌, length, IfOk, IsSome, Some};
+ghost use Rattle.std.specs.Prelude.{◌≡◌, ◌≤◌, ◌<◌, ◌^◌, ◌++◌, ◌+◌, length, IfOk};
 ghost use Rattle.std.specs.Option.{option_copied, option_map};
 ghost use Rattle.curp_base.specs.Words.{all_of, numbered};
+ghost use Rattle.curp_msg.specs.Input as input;
 ghost use Rattle.curp_msg.specs.Script.{IsHeader};
 ghost use Rattle.curp_model.specs.World as world;
 ghost use Rattle.curp_order.specs.Recorded.{invocation};
-ghost use Rattle.curp_cluster.specs.Given.{CanGet, MakesStep, barrier, expires_nobody, hands, input_in};
-ghost use Rattle.curp_msg.specs.Input.{input_of};
+ghost use Rattle.curp_cluster.specs.Given.{MakesStep, barrier, expires_nobody, hands, invoked_by};
+ghost use Rattle.curp_cluster.specs.Marks.{told_op};
 
-use crate::given::Gift;
-use crate::marks::{Due, flag};
-use crate::nodes::Nodes;
-use curp_base::{NoMemory, Shared};
-use curp_cmd::{Answer, KeptCommand, NodeId, Request, RequestId, Standby};
-use curp_line::Line;
+use crate::marked::Marked;
+use curp_base::{Items, NoMemory, Shared};
+use curp_cmd::{Answer, KeptCommand, NodeId, Request, RequestId};
 use curp_msg::{
-    Config, Done, Header, Input, Local, Message, Outcome, Step, StepResult, WEIGHT_LIMIT,
+    Completed, Config, Done, Header, Input, Local, Message, Outcome, Step, StepResult, WEIGHT_LIMIT,
 };
 use curp_nodes::ClientNode;
 use curp_order::History;
@@ -24,37 +22,30 @@ use std::marker::Model;
 
 /// All nodes, every message that was ever sent, the history, and the marks.
 pub struct Cluster {
-    alloc: Global,
-    nodes: Nodes,
+    marked: Marked,
     stopped: Stopped,
     sent: SentMessages,
     history: History,
-    marks: Line,
-    // Places for the commands that a step marks.
-    marking: Standby,
 }
 
 impl Drop for Cluster {
     fn drop(self) {
         let Cluster {
-            alloc: _,
-            nodes: _,
+            marked: _,
             stopped: _,
             sent: _,
             history: _,
-            marks: _,
-            marking: _,
         } = self;
     }
 }
 
 impl Model for Cluster {
     ghost use Rattle.curp_model.specs.World.{World};
-    ghost use Rattle.curp_cluster.specs.Nodes.{seen};
+    ghost use Rattle.curp_cluster.specs.Marked.{seen};
 
     ghost Value = { World };
 
-    ghost view = { λ c. seen c.nodes c.stopped c.sent.lists c.history.events c.marks.marks };
+    ghost view = { λ c. seen c.marked c.stopped c.sent.lists c.history.events };
 }
 
 impl Cluster {
@@ -64,13 +55,10 @@ impl Cluster {
         ensures { IfOk result (λ cluster. cluster ≡ world.opening header.now) }
     {
         Ok(Cluster {
-            alloc,
-            nodes: Nodes::new(alloc, header)?,
+            marked: Marked::new(alloc, header)?,
             stopped: Stopped::new(alloc),
             sent: SentMessages::new(alloc),
             history: History::new(alloc),
-            marks: Line::new(alloc),
-            marking: Standby::new(alloc),
         })
     }
 
@@ -86,21 +74,21 @@ impl Cluster {
     pub fn client(&self, number: u32) -> Option<&ClientNode>
         ensures { option_map (λ client. client.now.state) result ≡ numbered self.now.clients number }
     {
-        self.nodes.client(number)
+        self.marked.nodes().client(number)
     }
 
     /// The configuration that the manager has adopted.
     pub fn config(&self) -> &Config
         ensures { result.now ≡ self.now.manager.config }
     {
-        self.nodes.manager().config()
+        self.marked.nodes().manager().config()
     }
 
     /// How many masters were made so far, the stopped and the fresh ones too.
     pub fn master_count(&self) -> u32
         ensures { result ≡ length self.now.masters }
     {
-        self.nodes.master_count()
+        self.marked.nodes().master_count()
     }
 
     /// How many messages were ever sent. Their numbers and the next one fit a `u64`.
@@ -137,7 +125,7 @@ impl Cluster {
     pub fn order(&self, alloc: Global) -> Result<Vec<(RequestId, KeptCommand, Answer)>, NoMemory>
         ensures { IfOk result (λ list. list.items ≡ world.answered_order self.now) }
     {
-        let requests = self.marks.order()?;
+        let requests = self.marked.order()?;
         answered(alloc, &requests)
     }
 
@@ -149,7 +137,7 @@ impl Cluster {
             if self.expires_nobody(step) {
                 return Ok(self.silent(StepResult::NoNode));
             }
-            return self.hand(to, &Gift::Order(order));
+            return self.hand(to, &order);
         }
         match step {
             Step::Deliver { message } => self.deliver(*message),
@@ -160,14 +148,54 @@ impl Cluster {
     }
 
     // The message of that number comes to its addressee.
-    fn deliver(&mut self, message: u64) -> Result<Outcome, NoMemory>
-        ensures { MakesStep self.old self.new result (world.step self.old (Step.Deliver message)) }
+    fn deliver(&mut self, number: u64) -> Result<Outcome, NoMemory>
+        ensures { MakesStep self.old self.new result (world.step self.old (Step.Deliver number)) }
     {
-        let place = self.sent.place_of(message);
-        match self.addressee(&place) {
-            None => Ok(self.silent(StepResult::NoMessage)),
-            Some(to) => self.hand(to, &Gift::Message(place)),
+        let place = self.sent.place_of(number);
+        let Some(to) = self.addressee(&place) else {
+            return Ok(self.silent(StepResult::NoMessage));
+        };
+        if let Some(why) = self.barrier(to) {
+            return Ok(self.silent(why));
         }
+        self.sent.reserve()?;
+        self.history.reserve(2)?;
+        let Some(message) = self.sent.get_at(&place) else {
+            unreachable!();
+        };
+        let Done {
+            refused,
+            sent,
+            invoked: _,
+            completed,
+        } = self.marked.give(to, Input::Message(message))?;
+        if refused != 0 {
+            return Ok(self.silent(StepResult::Refused { number: refused }));
+        }
+        Ok(keep(&mut self.sent, &mut self.history, None, sent, completed))
+    }
+
+    // The node of that name, which is of the kind that the order is for, is handed it.
+    fn hand(&mut self, to: NodeId, order: &Local) -> Result<Outcome, NoMemory>
+        requires { to.kind ≡ world.taker_of order.now }
+        ensures { MakesStep self.old self.new result (hands self.old to (input.Local order.now)) }
+    {
+        if let Some(why) = self.barrier(to) {
+            return Ok(self.silent(why));
+        }
+        self.sent.reserve()?;
+        self.history.reserve(2)?;
+        let Done {
+            refused,
+            sent,
+            invoked,
+            completed,
+        } = self.marked.give(to, Input::Local(order))?;
+        if refused != 0 {
+            return Ok(self.silent(StepResult::Refused { number: refused }));
+        }
+        let invoked = invoked_by(order, invoked);
+        Ok(keep(&mut self.sent, &mut self.history, invoked, sent, completed))
     }
 
     // Whether the step declares a client gone that isn't there.
@@ -185,31 +213,6 @@ impl Cluster {
         ensures { result ≡ option_map (λ m. m.to) (numbered (world.messages self.now) place.now) }
     {
         self.sent.get_at(place).map(|message| message.to)
-    }
-
-    // The node of that name is handed what it is to get, unless something is in the way.
-    fn hand(&mut self, to: NodeId, gift: &Gift) -> Result<Outcome, NoMemory>
-        requires { CanGet self.old to gift.now }
-        ensures { MakesStep self.old self.new result (hands self.old to gift.now) }
-    {
-        if let Some(why) = self.barrier(to) {
-            return Ok(self.silent(why));
-        }
-        self.sent.reserve()?;
-        self.history.reserve(2)?;
-        let given = given_of(&self.sent, gift);
-        let due = Due::of(self.alloc, &self.nodes, to, given)?;
-        let most = due.most(given);
-        self.marks.reserve(most)?;
-        self.marking.reserve(most)?;
-        let done = self.nodes.give(to, given)?;
-        if done.refused != 0 {
-            let number = done.refused;
-            return Ok(self.silent(StepResult::Refused { number }));
-        }
-        due.mark(&mut self.marks, &mut self.marking, to, &self.nodes);
-        flag(&mut self.marks, done.completed);
-        Ok(keep(&mut self.sent, &mut self.history, gift, done))
     }
 
     // Why the node of that name gets nothing, whatever it is: it isn't there, it is stopped, or all messages weigh too
@@ -233,7 +236,7 @@ impl Cluster {
     fn has_node(&self, node: NodeId) -> bool
         ensures { result ≡ world.has_node self.now node }
     {
-        self.nodes.has_node(node)
+        self.marked.nodes().has_node(node)
     }
 
     // The node of that name gets nothing more.
@@ -266,46 +269,44 @@ impl Cluster {
     }
 }
 
-// What a node is given, by what it is to get.
-fn given_of<'a>(sent: &'a SentMessages, gift: &'a Gift) -> Input<'a>
-    requires { IsSome (input_in (all_of sent.now.lists) gift.now) }
-    ensures { input_in (all_of sent.now.lists) gift.now ≡ Some (input_of result) }
+// What a node invoked by an order: only one to invoke does.
+fn invoked_by(order: &Local, request: Option<Shared<Request>>) -> Option<Shared<Request>>
+    ensures { result ≡ invoked_by order.now request }
 {
-    match gift {
-        Gift::Order(order) => Input::Local(order),
-        Gift::Message(place) => match sent.get_at(place) {
-            Some(message) => Input::Message(message),
-            None => unreachable!(),
-        },
+    match order {
+        Local::Invoke(_) => request,
+        _ => None,
     }
 }
 
-// What a node did on an input is kept, behind an invocation where it was one.
-fn keep(sent: &mut SentMessages, history: &mut History, gift: &Gift, done: Done) -> Outcome
+// What a node did on an input is kept, behind what it invoked.
+fn keep(
+    sent: &mut SentMessages,
+    history: &mut History,
+    invoked: Option<Shared<Request>>,
+    messages: Items<Message>,
+    completed: Option<Completed>,
+) -> Outcome
     requires sent { 1 ≤ sent.old.spare }
     requires history { 2 ≤ history.old.spare }
-    ensures sent { sent.new.lists ≡ world.with_batch sent.old.lists done.sent }
+    ensures sent { sent.new.lists ≡ world.with_batch sent.old.lists messages }
     ensures history { history.new.events
-        ≡ (history.old.events ++ invocation invoked) ++ world.completion done.completed }
+        ≡ (history.old.events ++ invocation (option_map told_op invoked)) ++ world.completion completed }
     ensures outcome { result ≡ record {
       result = StepResult.Done;
       first = length (all_of sent.old.lists) + 1;
-      sent = length done.sent;
-      completed = done.completed;
+      sent = length messages;
+      completed = completed;
     } }
 {
     let outcome = Outcome {
         result: StepResult::Done,
         first: sent.next(),
-        sent: done.sent.len() as u64,
-        completed: done.completed,
+        sent: messages.len() as u64,
+        completed,
     };
-    sent.push(done.sent);
-    // Only an order to invoke invokes.
-    let invoked = match gift {
-        Gift::Order(Local::Invoke(_)) => done.invoked.map(|r| (r.id, KeptCommand::of(r))),
-        _ => None,
-    };
-    history.record(invoked, done.completed.map(|c| (c.id, c.answer)));
+    sent.push(messages);
+    let invoked = invoked.map(|r| (r.id, KeptCommand::of(r)));
+    history.record(invoked, completed.map(|c| (c.id, c.answer)));
     outcome
 }

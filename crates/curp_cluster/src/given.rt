@@ -1,17 +1,10 @@
+// A node gets its input.
 ghost use Rattle.std.specs.Prelude.{◌≡◌, ◌≢◌, ◌-◌, ◌≤◌, length, IfOk};
 ghost use Rattle.curp_msg.specs.Moved.{Moves, MovesAt};
 ghost use Rattle.curp_msg.specs.Input.{input_of};
 
 use curp_base::NoMemory;
-use curp_msg::{Core, Done, Input, Local};
-use curp_sent::MessagePlace;
-
-/// What a node is to get: the message of that place, or an order.
-#[derive(Drop)]
-pub(crate) enum Gift {
-    Message(MessagePlace),
-    Order(Local),
-}
+use curp_msg::{Core, Done, Input};
 
 /// The node gets it. If it refuses the order, it stays.
 pub(crate) fn give_one<N: Core>(node: &mut N, input: Input) -> Result<Done, NoMemory>

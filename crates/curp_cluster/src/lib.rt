@@ -8,6 +8,7 @@
 mod cluster;
 mod given;
 mod growing;
+mod marked;
 mod marks;
 mod nodes;
 

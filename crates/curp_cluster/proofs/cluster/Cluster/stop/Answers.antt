@@ -36,6 +36,6 @@ returns c =
     sym (c.eq.ensures ∙ ap (same_node c.args.node) c.manager.ensures) ∙ c.if-eq.false in
     let stopped : is_stopped c.args.self.now c.args.node ≡ false =
     ap (λ (w : World). is_stopped w c.args.node) (sym c.self.view_is) ∙ sym c.contains.ensures ∙ c.if-contains.false in
-    let now = node_stopped i.nodes i.stopped c.add.new.self i.sent.lists i.history.events i.marks.marks c.args.self.now c.args.node
+    let now = node_stopped i.marked i.stopped c.add.new.self i.sent.lists i.history.events c.args.self.now c.args.node
     (step c.args.self.now (Stop c.args.node)) c.self.view_is (stops_now c.args.self.now c.args.node there manager stopped) c.in_ok-add.ensures.ok in
     (now.0, c.silent-2.ensures ∙ now.1)

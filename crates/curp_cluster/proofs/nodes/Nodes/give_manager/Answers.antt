@@ -7,7 +7,7 @@ use Rattle.curp_model.specs.Recovery.{Fresh, MasterStage}
 use Rattle.curp_model.specs.Witness.{WitnessState, fresh_witness}
 use Rattle.curp_model.specs.World.{grown, moves}
 use Rattle.curp_msg.specs.Moved.{Moves, Node, within}
-use Rattle.curp_cluster.specs.Given.{input_of}
+use Rattle.curp_msg.specs.Input.{input_of}
 use Rattle.curp_opening.specs.Nodes.{IsAhead, states}
 use Rattle.curp_cluster.specs.Nodes.{NodeStates, most_fresh, nodes_of, with_nodes}
 use Rattle.curp_cluster.specs.contracts.nodes.Nodes.{the_view}
@@ -19,7 +19,7 @@ use Rattle.curp_cluster.proofs.nodes.Nodes.give_manager.Goals as goal
 
 pub add_masters-requires-clause-there : goal.add_masters-requires-clause-there
 add_masters-requires-clause-there c =
-    let given = input_of c.args.given.now in
+    let given = input_of c.args.input in
     let g = c.self.inside.manager in
     let k = c.give_one.new.node in
     let grows = made_grows g k given c.in_ok-done.done c.in_ok-done.ensures.moves in
@@ -27,7 +27,7 @@ add_masters-requires-clause-there c =
 
 pub add_masters-requires-clause-room : goal.add_masters-requires-clause-room
 add_masters-requires-clause-room c =
-    let given = input_of c.args.given.now in
+    let given = input_of c.args.input in
     let g = c.self.inside.manager in
     let k = c.give_one.new.node in
     let grows = made_grows g k given c.in_ok-done.done c.in_ok-done.ensures.moves in
@@ -38,7 +38,7 @@ add_masters-requires-clause-room c =
 
 pub add_backups-requires-clause-there : goal.add_backups-requires-clause-there
 add_backups-requires-clause-there c =
-    let given = input_of c.args.given.now in
+    let given = input_of c.args.input in
     let g = c.self.inside.manager in
     let k = c.give_one.new.node in
     let grows = made_grows g k given c.in_ok-done.done c.in_ok-done.ensures.moves in
@@ -46,7 +46,7 @@ add_backups-requires-clause-there c =
 
 pub add_backups-requires-clause-room : goal.add_backups-requires-clause-room
 add_backups-requires-clause-room c =
-    let given = input_of c.args.given.now in
+    let given = input_of c.args.input in
     let g = c.self.inside.manager in
     let k = c.give_one.new.node in
     let grows = made_grows g k given c.in_ok-done.done c.in_ok-done.ensures.moves in
@@ -57,7 +57,7 @@ add_backups-requires-clause-room c =
 
 pub take_up-requires-clause-there : goal.take_up-requires-clause-there
 take_up-requires-clause-there c =
-    let given = input_of c.args.given.now in
+    let given = input_of c.args.input in
     let g = c.self.inside.manager in
     let k = c.give_one.new.node in
     let grows = made_grows g k given c.in_ok-done.done c.in_ok-done.ensures.moves in
@@ -65,7 +65,7 @@ take_up-requires-clause-there c =
 
 pub take_up-requires-clause-room : goal.take_up-requires-clause-room
 take_up-requires-clause-room c =
-    let given = input_of c.args.given.now in
+    let given = input_of c.args.input in
     let g = c.self.inside.manager in
     let k = c.give_one.new.node in
     let grows = made_grows g k given c.in_ok-done.done c.in_ok-done.ensures.moves in
@@ -76,7 +76,7 @@ take_up-requires-clause-room c =
 
 pub take_up-requires-clause-made : goal.take_up-requires-clause-made
 take_up-requires-clause-made c =
-    let given = input_of c.args.given.now in
+    let given = input_of c.args.input in
     let g = c.self.inside.manager in
     let k = c.give_one.new.node in
     let grows = made_grows g k given c.in_ok-done.done c.in_ok-done.ensures.moves in
@@ -99,7 +99,7 @@ take_up-requires-clause-made c =
 
 pub invariant_of-self-2 : goal.invariant_of-self-2
 invariant_of-self-2 c =
-    let given = input_of c.args.given.now in
+    let given = input_of c.args.input in
     let g = c.self.inside.manager in
     let k = c.give_one.new.node in
     let grows = made_grows g k given c.in_ok-done.done c.in_ok-done.ensures.moves in
@@ -120,7 +120,7 @@ invariant_of-self-2 c =
 
 pub returns-clause-moves : goal.returns-clause-moves
 returns-clause-moves c = λ w.
-    let given = input_of c.args.given.now in
+    let given = input_of c.args.input in
     let g = c.self.inside.manager in
     let k = c.give_one.new.node in
     let grows = made_grows g k given c.in_ok-done.done c.in_ok-done.ensures.moves in
@@ -153,7 +153,7 @@ returns-clause-moves c = λ w.
 
 pub returns-clause-refused : goal.returns-clause-refused
 returns-clause-refused c = λ refused.
-    let given = input_of c.args.given.now in
+    let given = input_of c.args.input in
     let g = c.self.inside.manager in
     let k = c.give_one.new.node in
     let grows = made_grows g k given c.in_ok-done.done c.in_ok-done.ensures.moves in
