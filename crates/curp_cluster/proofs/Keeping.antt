@@ -111,12 +111,12 @@ order_events w to order is = go order (numbered w.clients to.number) refl is
     go : (order : Local) (o : Option ClientState) → numbered w.clients to.number ≡ o → to.kind ≡ taker_of order → has_node w to ≡ true
         → (moves w to (input.Local order)).refused ≡ 0
         → invocation (option_map told_op (invoked_by order (moves w to (input.Local order)).invoked)) ≡ invocation_of to o (input.Local order)
-    go (local.Invoke command) o here is =
+    go (local.Invoke command) o here is there taken =
         subst (λ (k : NodeKind). let node : NodeId = record { kind = k; number = to.number } in
         has_node w node ≡ true → (moves w node (input.Local (local.Invoke command))).refused ≡ 0
         → invocation (option_map told_op (moves w node (input.Local (local.Invoke command))).invoked)
         ≡ invocation_of to o (input.Local (local.Invoke command))) (sym is)
-        (λ there taken. invoked w to.number command o here (ap (λ (x : Option ClientState). is_some x) (sym here) ∙ there) taken)
+        (λ there taken. invoked w to.number command o here (ap (λ (x : Option ClientState). is_some x) (sym here) ∙ there) taken) there taken
     go order None here is there taken = refl
     go order (Some c) here is there taken = refl
 
