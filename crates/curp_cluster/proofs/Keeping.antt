@@ -13,10 +13,10 @@ use Rattle.curp_cmd.specs.declared.node.NodeKind.{NodeKind}
 use Rattle.curp_cmd.specs.declared.node.NodeKind.TheVariants as kind
 use Rattle.curp_model.specs.Client.{ClientState, client_ordered, invoke, most_pending, next_request, owner_of, sends_first}
 use Rattle.curp_model.specs.Marks.{Mark}
-use Rattle.curp_model.specs.World.{Deed, Gives, Stepped, World, completion, effect, events_of, has_node, invocation_of, kept, messages, moves, refused, steps_by, taker_of, with_batch, with_completion}
+use Rattle.curp_model.specs.World.{Gives, Stepped, World, completion, events_of, has_node, invocation_of, kept, moves, refused, steps_by, taker_of, with_batch, with_completion}
 use Rattle.curp_msg.specs.Input.{Input}
 use Rattle.curp_msg.specs.Input as input
-use Rattle.curp_msg.specs.Moved.{Makes, Moved, done_of, quiet, unless_refused, within}
+use Rattle.curp_msg.specs.Moved.{Makes, Moved, quiet, unless_refused, within}
 use Rattle.curp_msg.specs.declared.config.PartConfig.{PartConfig}
 use Rattle.curp_msg.specs.declared.machine.Done.{Done}
 use Rattle.curp_msg.specs.declared.machine.Local.{Local}
@@ -105,12 +105,12 @@ invoked w n command (Some c) here there =
 -- what an order to a node has invoked is the event of it
 order_events : (w : World) (to : NodeId) (order : Local) → to.kind ≡ taker_of order → has_node w to ≡ true
     → (moves w to (input.Local order)).refused ≡ 0
-    → invocation (option_map told_op (invoked_by order (moves w to (input.Local order)).invoked)) ≡ events_of w (Gives to (input.Local order))
+    → invocation (invoked_by order (moves w to (input.Local order)).invoked) ≡ events_of w (Gives to (input.Local order))
 order_events w to order is = go order (numbered w.clients to.number) refl is
   where
     go : (order : Local) (o : Option ClientState) → numbered w.clients to.number ≡ o → to.kind ≡ taker_of order → has_node w to ≡ true
         → (moves w to (input.Local order)).refused ≡ 0
-        → invocation (option_map told_op (invoked_by order (moves w to (input.Local order)).invoked)) ≡ invocation_of to o (input.Local order)
+        → invocation (invoked_by order (moves w to (input.Local order)).invoked) ≡ invocation_of to o (input.Local order)
     go (local.Invoke command) o here is there taken =
         subst (λ (k : NodeKind). let node : NodeId = record { kind = k; number = to.number } in
         has_node w node ≡ true → (moves w node (input.Local (local.Invoke command))).refused ≡ 0
@@ -190,23 +190,23 @@ module _ (old new : MarkedNodes) (stopped : List NodeId) (sent : List (List Mess
 
 -- what a node did on an order, behind what it invoked
 pub order_kept : (old new : MarkedNodes) (stopped : List NodeId) (sent sent' : List (List Message)) (history history' : List Event) (w : World)
-    (to : NodeId) (order : Local) (done : Done) (request : Option Request) (o : Outcome)
+    (to : NodeId) (order : Local) (done : Done) (event : Option (RequestId × Command)) (o : Outcome)
     → ((v : World) → Takes {E = AllocError} old new (Ok done) (moves (with_marked v old) to (input.Local order)))
     → seen old stopped sent history ≡ w → barrier w to ≡ None → to.kind ≡ taker_of order → done.refused ≡ 0
-    → request ≡ invoked_by order done.invoked
-    → sent' ≡ with_batch sent done.sent → history' ≡ (history ++ invocation (option_map told_op request)) ++ completion done.completed
+    → event ≡ invoked_by order done.invoked
+    → sent' ≡ with_batch sent done.sent → history' ≡ (history ++ invocation event) ++ completion done.completed
     → o ≡ record { result = result.Done; first = length (all_of sent) + 1; sent = length done.sent; completed = done.completed }
     → (seen new stopped sent' history' ≡ (hands w to (input.Local order)).world) × (o ≡ (hands w to (input.Local order)).outcome)
-order_kept old new stopped sent sent' history history' w to order done request o takes view passes is taken asks sends records outcome =
+order_kept old new stopped sent sent' history history' w to order done event o takes view passes is taken asks sends records outcome =
     subst (λ (v : World). barrier v to ≡ None → (seen new stopped sent' history' ≡ (hands v to (input.Local order)).world) × (o ≡ (hands v to (input.Local order)).outcome)) view
     (λ passes.
     let was : World = seen old stopped sent history in
     let took = takes was in
     let none : (moves was to (input.Local order)).refused ≡ 0 = sym (ap (λ (d : Done). d.refused) took.1) ∙ taken in
-    let invokes : invocation (option_map told_op request) ≡ events_of was (Gives to (input.Local order)) =
-    ap (λ (r : Option Request). invocation (option_map told_op r)) (asks ∙ ap (λ (d : Done). invoked_by order d.invoked) took.1)
+    let invokes : invocation event ≡ events_of was (Gives to (input.Local order)) =
+    ap invocation (asks ∙ ap (λ (d : Done). invoked_by order d.invoked) took.1)
     ∙ order_events was to order is (passed was to passes) none in
-    done_at old new stopped sent history to (input.Local order) done took passes sent' history' (option_map told_op request) o taken invokes sends records outcome)
+    done_at old new stopped sent history to (input.Local order) done took passes sent' history' event o taken invokes sends records outcome)
     passes
 
 -- what a node did on a message

@@ -1,5 +1,5 @@
 -- The world that the nodes of the opening are.
-use Rattle.std.proofs.Common.{◌≡◌, [], ap, refl}
+use Rattle.std.proofs.Common.{◌≡◌, [], ap}
 use Rattle.curp_model.specs.World.{opening}
 use Rattle.curp_msg.specs.declared.script.Header.{Header}
 use Rattle.curp_cluster.specs.Marked.{MarkedNodes, marked_of, seen}

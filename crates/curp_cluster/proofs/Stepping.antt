@@ -1,5 +1,5 @@
 -- A step, by what it gives a node or by the node that it stops.
-use Rattle.std.proofs.Common.{◌≡◌, ◌==◌, ◌&&◌, ◌||◌, if◌then◌else◌, nat_lt, ℕ, Bool, true, false, not, List, [], ◌∷◌, ◌++◌, Option, Some, None, is_some, Result, Ok, Err, IfOk, refl, ap, sym, ◌∙◌, subst}
+use Rattle.std.proofs.Common.{◌≡◌, ◌==◌, ◌&&◌, ◌||◌, if◌then◌else◌, nat_lt, ℕ, Bool, true, false, not, List, [], ◌∷◌, ◌++◌, Option, Some, None, is_some, refl, ap, sym, ◌∙◌, subst}
 use Rattle.std.specs.Prelude.{⊤}
 use Rattle.std.specs.List.{list_all, list_any}
 use Rattle.std.specs.Option.{option_map}
@@ -7,7 +7,7 @@ use Rattle.curp_base.specs.Cases.{first_case, only_if}
 use Rattle.curp_base.specs.Words.{numbered}
 use Rattle.curp_cmd.specs.Node.{client_node, manager_node, master_node, same_node}
 use Rattle.curp_cmd.specs.declared.node.NodeId.{NodeId}
-use Rattle.curp_model.specs.World.{Deed, Gives, World, delivery, effect, has_node, is_stopped, is_too_much, kept, messages, moves, order_in, order_of, refused, result_of, step, steps_by, subject, taker_of, weight}
+use Rattle.curp_model.specs.World.{Deed, Gives, World, delivery, effect, has_node, is_stopped, is_too_much, kept, messages, moves, order_in, order_of, refused, step, steps_by, subject, taker_of, weight}
 use Rattle.curp_msg.specs.Input.{Input}
 use Rattle.curp_msg.specs.Input as input
 use Rattle.curp_msg.specs.Limits.{weight_limit}
@@ -15,7 +15,6 @@ use Rattle.curp_msg.specs.Moved.{quiet}
 use Rattle.curp_msg.specs.declared.machine.Local.{Local}
 use Rattle.curp_msg.specs.declared.machine.Local.TheVariants as local
 use Rattle.curp_msg.specs.declared.message.Message.{Message}
-use Rattle.curp_msg.specs.declared.outcome.Outcome.{Outcome}
 use Rattle.curp_msg.specs.declared.outcome.StepResult.{StepResult}
 use Rattle.curp_msg.specs.declared.outcome.StepResult.TheVariants.{Done, Full, Gone, Manager, NoMessage, NoNode, Refused}
 use Rattle.curp_msg.specs.declared.script.Step.{Step}

@@ -1,8 +1,11 @@
 -- One input to one node: a message, or an order.
 use Rattle.std.specs.Prelude.{◌≡◌, ℕ, nat_lt, ◌==◌, if◌then◌else◌, Bool, false, not, [], ◌∷◌, Option, Some, None, Result, Ok, Err}
+use Rattle.std.specs.Option.{option_map}
 use Rattle.curp_base.specs.Cases.{first_case, only_if}
 use Rattle.curp_cmd.specs.Node.{client_node}
+use Rattle.curp_cmd.specs.declared.command.Command.{Command}
 use Rattle.curp_cmd.specs.declared.command.Request.{Request}
+use Rattle.curp_cmd.specs.declared.command.RequestId.{RequestId}
 use Rattle.curp_cmd.specs.declared.node.NodeId.{NodeId}
 use Rattle.curp_model.specs.World.{Gives, Stepped, World, has_node, is_stopped, moves, steps_by, weight}
 use Rattle.curp_msg.specs.Input.{Input}
@@ -14,15 +17,16 @@ use Rattle.curp_msg.specs.declared.outcome.StepResult.{StepResult}
 use Rattle.curp_msg.specs.declared.outcome.StepResult.TheVariants as result
 use Rattle.curp_msg.specs.declared.script.Step.{Step}
 use Rattle.curp_msg.specs.declared.script.Step.TheVariants as step
+use Rattle.curp_cluster.specs.Marks.{told_op}
 
 -- the step declares a client gone that isn't there
 abbrev pub expires_nobody : World → Step → Bool
 expires_nobody w (step.Expire n) = not (has_node w (client_node n))
 expires_nobody w s = false
 
--- what a node invoked by an order: only one to invoke does
-abbrev pub invoked_by : Local → Option Request → Option Request
-invoked_by (local.Invoke command) request = request
+-- what a node invoked by an order, of which that request came: only one to invoke does
+abbrev pub invoked_by : Local → Option Request → Option (RequestId × Command)
+invoked_by (local.Invoke command) request = option_map told_op request
 invoked_by order request = None
 
 -- why the node gets nothing, whatever it is: there is no such node, it is stopped, or all messages weigh too much

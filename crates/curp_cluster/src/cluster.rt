@@ -6,7 +6,6 @@ ghost use Rattle.curp_msg.specs.Script.{IsHeader};
 ghost use Rattle.curp_model.specs.World as world;
 ghost use Rattle.curp_order.specs.Recorded.{invocation};
 ghost use Rattle.curp_cluster.specs.Given.{MakesStep, barrier, expires_nobody, hands, invoked_by};
-ghost use Rattle.curp_cluster.specs.Marks.{told_op};
 
 use crate::marked::Marked;
 use curp_base::{Items, NoMemory, Shared};
@@ -270,12 +269,22 @@ impl Cluster {
 }
 
 // What a node invoked by an order: only one to invoke does.
-fn invoked_by(order: &Local, request: Option<Shared<Request>>) -> Option<Shared<Request>>
+fn invoked_by(order: &Local, request: Option<Shared<Request>>) -> Option<(RequestId, KeptCommand)>
     ensures { result ≡ invoked_by order.now request }
 {
     match order {
-        Local::Invoke(_) => request,
+        Local::Invoke(_) => request.map(|r| (r.id, KeptCommand::of(r))),
         _ => None,
+    }
+}
+
+// The request that completed by a step, with its answer.
+fn answered_by(outcome: &Outcome) -> Option<(RequestId, Answer)>
+    ensures { result ≡ option_map (λ c. (c.id, c.answer)) outcome.now.completed }
+{
+    match &outcome.completed {
+        Some(completed) => Some((completed.id, completed.answer)),
+        None => None,
     }
 }
 
@@ -283,7 +292,7 @@ fn invoked_by(order: &Local, request: Option<Shared<Request>>) -> Option<Shared<
 fn keep(
     sent: &mut SentMessages,
     history: &mut History,
-    invoked: Option<Shared<Request>>,
+    invoked: Option<(RequestId, KeptCommand)>,
     messages: Items<Message>,
     completed: Option<Completed>,
 ) -> Outcome
@@ -291,7 +300,7 @@ fn keep(
     requires history { 2 ≤ history.old.spare }
     ensures sent { sent.new.lists ≡ world.with_batch sent.old.lists messages }
     ensures history { history.new.events
-        ≡ (history.old.events ++ invocation (option_map told_op invoked)) ++ world.completion completed }
+        ≡ (history.old.events ++ invocation invoked) ++ world.completion completed }
     ensures outcome { result ≡ record {
       result = StepResult.Done;
       first = length (all_of sent.old.lists) + 1;
@@ -306,7 +315,6 @@ fn keep(
         completed,
     };
     sent.push(messages);
-    let invoked = invoked.map(|r| (r.id, KeptCommand::of(r)));
-    history.record(invoked, completed.map(|c| (c.id, c.answer)));
+    history.record(invoked, answered_by(&outcome));
     outcome
 }

@@ -1,4 +1,4 @@
-use Rattle.std.proofs.Common.{◌≡◌, ◌<◌, ◌+◌, ◌^◌, length, drop, arith, ap, ◌∙◌, List}
+use Rattle.std.proofs.Common.{length, drop, arith, ap, ◌∙◌, List}
 use Rattle.curp_cmd.specs.declared.command.Request.{Request}
 use Rattle.curp_cmd.specs.declared.entry.Entry.{Entry}
 use Rattle.curp_model.specs.World.{op_requests}

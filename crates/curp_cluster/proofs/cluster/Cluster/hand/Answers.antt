@@ -1,5 +1,4 @@
-use Rattle.std.proofs.Common.{◌≡◌, ℕ, ◌++◌, ◌+◌, List, true, length, ap, rules, sym, ◌∙◌, subst}
-use Rattle.std.specs.Option.{option_map}
+use Rattle.std.proofs.Common.{◌≡◌, ◌++◌, ◌+◌, List, true, length, ap, rules, sym, ◌∙◌, subst}
 use Rattle.curp_base.specs.Words.{all_of}
 use Rattle.curp_model.specs.World.{Stepped, World, completion, has_node, refused, with_batch}
 use Rattle.curp_msg.specs.Input.{Local}
@@ -8,7 +7,6 @@ use Rattle.curp_msg.specs.declared.outcome.StepResult.TheVariants.{Done, Refused
 use Rattle.curp_order.specs.Recorded.{invocation}
 use Rattle.curp_order.specs.declared.Event.{Event}
 use Rattle.curp_cluster.specs.Marked.{seen}
-use Rattle.curp_cluster.specs.Marks.{told_op}
 use Rattle.curp_cluster.proofs.Keeping.{as_before, nothing_done, nothing_kept, order_kept, seen_same}
 use Rattle.curp_cluster.proofs.Stepping.{barred, passed}
 use Rattle.curp_cluster.proofs.cluster.Cluster.hand.Goals as goal
@@ -26,7 +24,7 @@ returns c =
     let done = c.in_ok-refused.field-0 in
     let sends = c.keep.ensures.sent ∙ ap (λ (lists : List (List Message)). with_batch lists done.sent) c.reserve.ensures.lists in
     let records = c.keep.ensures.history
-    ∙ ap (λ (events : List Event). (events ++ invocation (option_map told_op c.invoked_by-invoked.result)) ++ completion done.completed) c.reserve-2.ensures.events in
+    ∙ ap (λ (events : List Event). (events ++ invocation c.invoked_by-invoked.result) ++ completion done.completed) c.reserve-2.ensures.events in
     let outcome = c.keep.ensures.outcome ∙ ap (λ (lists : List (List Message)).
     record { result = Done; first = length (all_of lists) + 1; sent = length done.sent; completed = done.completed }) c.reserve.ensures.lists in
     order_kept i.marked c.give.new.self i.stopped i.sent.lists c.keep.new.sent.lists i.history.events c.keep.new.history.events c.args.self.now
