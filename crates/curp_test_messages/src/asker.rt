@@ -1,8 +1,9 @@
 // A node, and calls over any node.
-ghost use Rattle.std.specs.Prelude.{◌≡◌, ◌≢◌, ◌<◌, [], None, OnOk, IfOk, length};
+ghost use Rattle.std.specs.Prelude.{◌≡◌, ◌≢◌, ◌<◌, [], None, OnOk, IfOk, length, map};
 ghost use Rattle.curp_msg.specs.Example.{fetch_message};
 ghost use Rattle.curp_msg.specs.Moved.{MovesAt};
 ghost use Rattle.curp_msg.specs.Input as input;
+ghost use Rattle.curp_test_messages.specs.Runs.{state_after};
 
 use curp_base::{Items, NoMemory};
 use curp_cmd::{NodeId, NodeKind};
@@ -96,9 +97,14 @@ fn fetch_message() -> Message
     }
 }
 
-// Gives any node an input.
-pub(crate) fn give_one<N: Core>(node: &mut N, input: Input) -> Result<Done, NoMemory> {
-    node.on(input)
+// Gives any node messages, one after the other.
+pub(crate) fn give_all<N: Core>(node: &mut N, messages: &[Message]) -> Result<(), NoMemory>
+    ensures { OnOk result (node.new ≡ state_after N.machine node.old (map input.Message messages.now)) }
+{
+    for message in messages {
+        node.on(Input::Message(message))?;
+    }
+    Ok(())
 }
 
 // Gives any node an order. Where it refuses, nothing has changed and nothing is sent.

@@ -1,13 +1,13 @@
 //! Messages are copied whole and weigh what they carry, and any node takes inputs.
 
-use crate::asker::{Asker, give, give_one, order};
+use crate::asker::{Asker, give, give_all, order};
 use crate::build::{id, key, must, request, right, right_at, shared, times, value};
 use crate::carried::{config, entries, nodes, op, parcel, put_two, recover};
 use curp_base::Items;
 use curp_cmd::{Command, Entry, NodeId, Request};
 use curp_msg::{
-    Append, Ask, Body, Collected, FenceAnswer, FenceReply, Gc, GcAnswer, Input, Local, Message,
-    Prepare, weight,
+    Append, Ask, Body, Collected, FenceAnswer, FenceReply, Gc, GcAnswer, Local, Message, Prepare,
+    weight,
 };
 use std::alloc::Global;
 use std::process::Abort;
@@ -37,15 +37,20 @@ fn try_order(rt: &impl Abort, asker: &mut Asker, local: &Local, refused: u8, sen
     drop(done);
 }
 
+fn told(rt: &impl Abort, alloc: Global) -> Vec<Message> {
+    let mut messages = Vec::new(alloc);
+    for serial in [1, 3, 2] {
+        must(rt, messages.push(tells(rt, alloc, serial)));
+    }
+    messages
+}
+
 #[test]
 fn any_node_takes_inputs(rt: HostRuntime) {
+    let messages = told(&rt, rt.alloc());
     let mut asker = Asker::new(rt.alloc());
-    for serial in [1, 3, 2] {
-        let message = tells(&rt, rt.alloc(), serial);
-        let done = must(&rt, give_one(&mut asker, Input::Message(&message)));
-        drop(done);
-        drop(message);
-    }
+    must(&rt, give_all(&mut asker, &messages));
+    drop(messages);
     right(&rt, asker.serial() == 3, "any node takes inputs");
     try_order(&rt, &mut asker, &Local::Fetch, 0, 1);
     try_order(&rt, &mut asker, &Local::Sync, 1, 0);
