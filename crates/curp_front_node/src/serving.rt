@@ -7,7 +7,7 @@ ghost use Rattle.curp_front_node.specs.Ends.{IsEndOfWait, IsOfNode, IsOfWaiting,
 
 use curp_base::{Items, NoMemory, Shared};
 use curp_client::InvokeError;
-use curp_cmd::{Command, NodeId, RequestId};
+use curp_cmd::{Command, NodeId};
 use curp_disk::Disk;
 use curp_durable::{Answered, Durable};
 use curp_filter::{FilterEnd, PassedOver, told_of, write_text};
@@ -247,9 +247,8 @@ impl<'a, D: Disk> Server<'a, D> {
         if orders.is_empty() {
             return Ok(false);
         }
-        let before = self.node.node().last();
         let answers = self.node.on_all(orders)?;
-        self.settle(before, &connections, &answers);
+        self.settle(&connections, &answers);
         self.tell_messages(&answers)?;
         Ok(true)
     }
@@ -280,16 +279,14 @@ impl<'a, D: Disk> Server<'a, D> {
         Ok(Arrived::Local(Local::Invoke(shared), self.node.last_stamp()))
     }
 
-    /// Tells each connection which request its command is, or why it is none. A client's requests are numbered one by one.
-    fn settle(&mut self, before: u32, connections: &[u64], answers: &[Answered]) {
-        let mut seq = before;
+    /// Tells each connection which request its command is, or why it is none.
+    fn settle(&mut self, connections: &[u64], answers: &[Answered]) {
         for (connection, answered) in connections.iter().zip(answers.iter()) {
             match answered {
-                Answered::Made { .. } => {
-                    seq = seq.saturating_add(1);
-                    let client = self.client;
-                    self.fronts
-                        .on_invoked(*connection, RequestId { client, seq });
+                Answered::Made { item, .. } => {
+                    if let Some(request) = &item.done.invoked {
+                        self.fronts.on_invoked(*connection, request.id);
+                    }
                 }
                 Answered::Refused { number } => {
                     self.fronts.on_refused(*connection, refusal_of(*number));
