@@ -42,7 +42,7 @@
 //!
 //! | order | to | when |
 //! |---|---|---|
-//! | `Invoke` | a client | there is a command. Its number is `last()` then. Refused by 1 while 8 are pending, by 2 where the client's numbers are at their end, by 3 where no one partition owns all keys |
+//! | `Invoke` | a client | there is a command. `invoked` has the request with its number. Refused by 1 while 8 are pending, by 2 where the client's numbers are at their end, by 3 where no one partition owns all keys |
 //! | `Retry` | a client | a request is pending for long, and each that is pending once a new configuration came |
 //! | `Fetch` | a client | retries don't help: the lists that it knows may be old |
 //! | `Sync` | a master | now and then, since what is answered at once goes to no backup until a round begins; and where a recovery or new lists stand still, since it sends again what they wait for |
@@ -53,8 +53,8 @@
 //! | `Migrate`, `Expire` | the manager | hashes are to move; a client is gone for good |
 //!
 //! Each order to a client or the manager is a call too, as `invoke` of a `ClientNode` and `recover` of a `ManagerNode`: it
-//! fails by `Failed` of the reason that refuses it (`InvokeError`, `RecoverError`), whose `number` is that of the order
-//! (`Numbered`). A node behind a journal takes orders alone.
+//! fails by `Failed` of the reason that refuses it (`InvokeError`, `RecoverError`), whose `number` (`Numbered`) is what the
+//! order has as `refused`. A node behind a journal takes orders alone.
 //!
 //! The nodes have no policy of their own. That of `curp live` has its numbers in `policy`, and its code in
 //! `curp_live/src/chores.rt`: a client has at most `PENDING_AT_ONCE` requests pending, and retries all of them in order
@@ -78,9 +78,9 @@
 //!
 //! # Bytes, journals, tests
 //!
-//! - `frames`: `encode` writes a message as a frame, or says that it has none (`NoFrame`); `encode_light` does
-//!   so of a message that is light, which always has one. `decode` finds the message that bytes begin with and its length,
-//!   or says how many bytes are needed (`FrameError::Short`). No frame has a checksum.
+//! - `frames`: `encode` writes a message as a frame, or says that it has none (`NoFrame`); `encode_light` does so of a
+//!   message that is light, which always has one. `decode` finds the message that bytes begin with and its length, or says
+//!   how many bytes are needed (`FrameError::Short`). No frame has a checksum.
 //! - `journal`: an `Item` is what came to a node, and what it did then; a message comes with its sender's name for it, and
 //!   an order with a stamp (`Arrived`).
 //! - `durable`: a journal of any node on any disk. `format` writes an empty one under a title (`title_of` makes that of a
