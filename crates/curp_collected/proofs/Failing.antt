@@ -42,7 +42,6 @@ so_fails machine files h id node inputs file (error.NoSuchNode k) j stops = stop
 so_fails machine files h id node inputs file (error.Twice k) j stops = stops
 so_fails machine files h id node inputs file (error.Damaged k place) j stops = absurd stops
 so_fails machine files h id node inputs file (error.OrderFirst k) j stops = stops
-so_fails machine files h id node inputs file error.NoMemory j stops = tt
 so_fails machine files h id node inputs file (error.Foreign k number) j stops = record {
   inputs = inputs;
   stands = subst (λ n. IsJournalAt files n h id inputs) (sym stops.0) j;
@@ -64,7 +63,6 @@ module _ {N : Type 0} (machine : N → Input → Moved N) (files : List (List �
   cause_of (error.NoSuchNode k) is = absurd is
   cause_of (error.Twice k) is = absurd is
   cause_of (error.Damaged k place) is = is
-  cause_of error.NoMemory is = tt
   cause_of (error.Foreign k number) is = record {
     journal = record { h = h; node = b.id; inputs = is.inputs; stands = is.stands };
     foreign = is.foreign;

@@ -106,7 +106,6 @@ module _ {N : Type 0} (machine : N → Input → Moved N) (until : Option ℕ) (
   stops_at inputs done log input file (error.Twice k) so_far at are stops = stops
   stops_at inputs done log input file (error.Damaged k place) so_far at are stops = stops
   stops_at inputs done log input file (error.OrderFirst k) so_far at are stops = stops
-  stops_at inputs done log input file error.NoMemory so_far at are stops = tt
   stops_at inputs done log input file (error.Foreign k number) so_far at are stops = (
     stops.0,
     record {

@@ -1,5 +1,5 @@
 -- Why files aren't the journals of a header's nodes, or no script (this project's own).
-use Rattle.std.specs.Prelude.{◌≡◌, ◌≢◌, ◌<◌, ℕ, ◌*◌, ◌+◌, List, [], length, Option, unwrap_or, ⊤}
+use Rattle.std.specs.Prelude.{◌≡◌, ◌≢◌, ◌<◌, ℕ, ◌*◌, ◌+◌, List, [], length, Option, unwrap_or}
 use Rattle.curp_base.specs.Words.{At, numbered}
 use Rattle.curp_cmd.specs.declared.node.NodeId.{NodeId}
 use Rattle.curp_cmd.specs.declared.node.NodeKind.{NodeKind}
@@ -133,7 +133,6 @@ IsCause files (error.Damaged file place) = IsDamagedAt files file place
 IsCause files (error.Foreign file number) = IsForeign files file number
 IsCause files (error.Refused file number) = IsRefused files file number
 IsCause files (error.OrderFirst file) = IsOrderedFirst files file
-IsCause files error.NoMemory = ⊤
 
 -- the files' journals are no script, by an error of gathering
 pub record AreNoScript (files : List (List ℕ)) (until : Option ℕ) (why : GatherError) : Type 0 where
@@ -172,13 +171,11 @@ abbrev pub FailsSo : {N : Type 0} → (N → Input → Moved N) → List (List �
 FailsSo machine files h id node (error.Damaged file place) = IsDamagedAt files file place
 FailsSo machine files h id node (error.Foreign file number) = IsForeignIn files h id file number
 FailsSo machine files h id node (error.Refused file number) = IsRefusedIn machine files h id node file number
-FailsSo machine files h id node error.NoMemory = ⊤
 FailsSo machine files h id node _ = ⊥
 
 -- what stands in a file isn't read
 abbrev pub IsUnread : List (List ℕ) → CollectError → Type 0
 IsUnread files (error.Damaged file place) = IsDamagedAt files file place
-IsUnread files error.NoMemory = ⊤
 IsUnread files _ = ⊥
 
 -- so it does, or the node isn't there before any step and took an order first
@@ -199,12 +196,10 @@ pub record OneFails {N : Type 0} (machine : N → Input → Moved N) (files : Li
 abbrev pub StopsBy : {N : Type 0} → (N → Input → Moved N) → NodeJournal N → Arrived → (file : ℕ) → CollectError → Type 0
 StopsBy machine log input file (error.Foreign at number) = (at ≡ file) × (number ≡ length log.items + 1) × (IsOwn log.id input → ⊥)
 StopsBy machine log input file (error.Refused at number) = (at ≡ file) × (number ≡ length log.items + 1) × IsRefusedBy machine log input
-StopsBy machine log input file error.NoMemory = ⊤
 StopsBy machine log input file _ = ⊥
 
 -- why one of the inputs isn't
 abbrev pub StopsAt : {N : Type 0} → (N → Input → Moved N) → NodeId → N → List Arrived → (file : ℕ) → CollectError → Type 0
 StopsAt machine id node inputs file (error.Foreign at number) = (at ≡ file) × IsForeignAt id inputs number
 StopsAt machine id node inputs file (error.Refused at number) = (at ≡ file) × IsRefusedAt machine node inputs number
-StopsAt machine id node inputs file error.NoMemory = ⊤
 StopsAt machine id node inputs file _ = ⊥

@@ -1,4 +1,5 @@
 ghost use Rattle.std.specs.Prelude.{map, IfOk, IfErr};
+ghost use Rattle.curp_msg.specs.Told.{IfBecause};
 ghost use Rattle.curp_collected.specs.Causes.{IsCause};
 ghost use Rattle.curp_collected.specs.Collected.{AreCollected};
 ghost use Rattle.curp_collected.specs.Files.{AreOfHeader, contents_of};
@@ -6,6 +7,7 @@ ghost use Rattle.curp_collected.specs.Files.{AreOfHeader, contents_of};
 use crate::CollectError;
 use crate::files::Files;
 use crate::kinds::{backups, clients, manager, masters, witnesses};
+use curp_base::Failed;
 use curp_gather::Journals;
 use curp_msg::Header;
 use std::alloc::Global;
@@ -18,10 +20,10 @@ pub fn collect(
     alloc: Global,
     files: &[Vec<u8>],
     until: Option<u64>,
-) -> Result<(Header, Journals), CollectError>
+) -> Result<(Header, Journals), Failed<CollectError>>
     ensures collected { IfOk result
         (λ found. AreCollected (map (λ file. file.items) files.now) until found.0 found.1) }
-    ensures cause { IfErr result (IsCause (map (λ file. file.items) files.now)) }
+    ensures cause { IfErr result (IfBecause (IsCause (map (λ file. file.items) files.now))) }
 {
     let files = Files::read(alloc, files, until)?;
     let journals = journals_in(&files)?;
@@ -30,11 +32,11 @@ pub fn collect(
 
 /// The journals in files of a header's nodes.
 #[tactic(auto, using(crate::proofs::Whole::collected))]
-fn journals_in(files: &Files<'_>) -> Result<Journals, CollectError>
+fn journals_in(files: &Files<'_>) -> Result<Journals, Failed<CollectError>>
     requires { AreOfHeader files.now }
     ensures collected { IfOk result
         (AreCollected (contents_of files.now.each.items) files.now.until files.now.header) }
-    ensures cause { IfErr result (IsCause (contents_of files.now.each.items)) }
+    ensures cause { IfErr result (IfBecause (IsCause (contents_of files.now.each.items))) }
 {
     let first = curp_opening::manager(files.alloc, &files.header)?;
     let clients = clients(files, first.config())?;

@@ -1,9 +1,7 @@
 ghost use Rattle.std.specs.Prelude.{◌≡◌};
-ghost use Rattle.curp_collected.specs.declared.error.CollectError.TheVariants as collect;
 ghost use Rattle.curp_collected.specs.declared.error.ScriptError.TheVariants as script;
 
 use curp_gather::GatherError;
-use std::alloc::AllocError;
 use thiserror::Error;
 
 /// Why files aren't the journals of a header's nodes. A file goes by its place among those that were given, counted
@@ -35,16 +33,6 @@ pub enum CollectError {
     /// The node isn't there before any step, and took an order before any message.
     #[error("file {file} is of a fresh node that took an order first")]
     OrderFirst { file: usize },
-    #[error("out of memory")]
-    NoMemory,
-}
-
-impl From<AllocError> for CollectError {
-    ghost from_gives = { λ _ e. e ≡ collect.NoMemory };
-
-    fn from(_error: AllocError) -> CollectError {
-        CollectError::NoMemory
-    }
 }
 
 /// Why files are no script.

@@ -2,10 +2,12 @@
 ghost use Rattle.std.specs.Prelude.{◌≡◌, ◌↔◌, map, IfNone, IfOk, IfErr, IfSome, OnOk, IsTrue};
 ghost use Rattle.curp_base.specs.Words.{Each};
 ghost use Rattle.curp_msg.specs.Script.{IsHeader};
+ghost use Rattle.curp_msg.specs.Told.{IfBecause};
 ghost use Rattle.curp_collected.specs.Causes.{IsCause};
 ghost use Rattle.curp_collected.specs.Files.{AreApart, AreOfHeader, HasNoFile, HasNoTitle, HasTitle, IsFileOf, IsNext, IsOfHeader, IsPossible, IsRead, contents_of, is_below, nearer};
 
 use crate::CollectError;
+use curp_base::Failed;
 use curp_cmd::{NodeId, NodeKind};
 use curp_msg::Header;
 use curp_title::{TITLE_LENGTH, Title, title_in};
@@ -41,16 +43,22 @@ impl<'a> Files<'a> {
         alloc: Global,
         contents: &'a [Vec<u8>],
         until: Option<u64>,
-    ) -> Result<Files<'a>, CollectError>
+    ) -> Result<Files<'a>, Failed<CollectError>>
         ensures read { IfOk result (λ files. AreOfHeader files) }
         ensures contents { IfOk result
             (λ files. contents_of files.each.items ≡ map (λ content. content.items) contents.now) }
         ensures until { IfOk result (λ files. files.until ≡ until) }
-        ensures cause { IfErr result (IsCause (map (λ content. content.items) contents.now)) }
+        ensures cause { IfErr result (IfBecause (IsCause (map (λ content. content.items) contents.now))) }
     {
         let each = with_titles(alloc, contents)?;
-        let header = header_of(&each)?;
-        all_apart(&each)?;
+        let header = match header_of(&each) {
+            Ok(header) => header,
+            Err(why) => return Err(Failed::Because(why)),
+        };
+        match all_apart(&each) {
+            Ok(()) => {}
+            Err(why) => return Err(Failed::Because(why)),
+        }
         Ok(Files {
             alloc,
             header,
@@ -69,18 +77,21 @@ impl<'a> Files<'a> {
 }
 
 /// The files with their titles.
-fn with_titles<'a>(alloc: Global, contents: &'a [Vec<u8>]) -> Result<Vec<File<'a>>, CollectError>
+fn with_titles<'a>(
+    alloc: Global,
+    contents: &'a [Vec<u8>],
+) -> Result<Vec<File<'a>>, Failed<CollectError>>
     ensures read { IfOk result (λ files. Each IsRead files.items) }
     ensures contents { IfOk result
         (λ files. contents_of files.items ≡ map (λ content. content.items) contents.now) }
-    ensures cause { IfErr result (IsCause (map (λ content. content.items) contents.now)) }
+    ensures cause { IfErr result (IfBecause (IsCause (map (λ content. content.items) contents.now))) }
 {
     let mut files = Vec::new(alloc);
     for content in contents {
         files.reserve(1)?;
         match title_at(content) {
             Some(title) => files.push_reserved(File { title, content }),
-            None => return Err(CollectError::NotAJournal { file: files.len() }),
+            None => return Err(Failed::Because(CollectError::NotAJournal { file: files.len() })),
         }
     }
     Ok(files)

@@ -10,6 +10,7 @@ ghost use Rattle.curp_model.specs.Witness.{fresh_witness};
 ghost use Rattle.curp_model.specs.World.{opening, opening_client, shape_of};
 ghost use Rattle.curp_client.specs.Machine.{client_machine};
 ghost use Rattle.curp_config.specs.Machine.{manager_machine};
+ghost use Rattle.curp_msg.specs.Told.{IfBecause};
 ghost use Rattle.curp_nodes.specs.Machines.{backup_machine, master_machine, witness_machine};
 ghost use Rattle.curp_collected.specs.Causes.{IsCause};
 ghost use Rattle.curp_collected.specs.Files.{AreOfHeader, contents_of};
@@ -20,7 +21,7 @@ use crate::beginning::{Beginning, numbered};
 use crate::files::{Files, next_number};
 use crate::replaying::{journal_of, journals_of};
 use curp_anew::fresh_witness;
-use curp_base::NoMemory;
+use curp_base::{Failed, NoMemory};
 use curp_cmd::{NodeId, NodeKind};
 use curp_journal::Origin;
 use curp_msg::Config;
@@ -31,12 +32,12 @@ use curp_seat::Kept;
 pub(crate) fn manager(
     files: &Files<'_>,
     manager: ManagerNode,
-) -> Result<Kept<ManagerNode>, CollectError>
+) -> Result<Kept<ManagerNode>, Failed<CollectError>>
     requires files { AreOfHeader files.now }
     requires manager { manager ≡ (opening files.now.header).manager }
     ensures log { IfOk result
         (IsManagerOf (contents_of files.now.each.items) files.now.until files.now.header) }
-    ensures cause { IfErr result (IsCause (contents_of files.now.each.items)) }
+    ensures cause { IfErr result (IfBecause (IsCause (contents_of files.now.each.items))) }
 {
     let beginning = Beginning {
         id: NodeId::manager(),
@@ -53,12 +54,12 @@ pub(crate) fn manager(
 pub(crate) fn clients(
     files: &Files<'_>,
     config: &Config,
-) -> Result<Vec<Kept<ClientNode>>, CollectError>
+) -> Result<Vec<Kept<ClientNode>>, Failed<CollectError>>
     requires files { AreOfHeader files.now }
     requires config { config.now ≡ opening_config (shape_of files.now.header) }
     ensures logs { IfOk result (λ logs. AreOfKind kind.Client client_machine (IsClientJournal files.now.header)
         (contents_of files.now.each.items) files.now.until files.now.header logs.items) }
-    ensures cause { IfErr result (IsCause (contents_of files.now.each.items)) }
+    ensures cause { IfErr result (IfBecause (IsCause (contents_of files.now.each.items))) }
 {
     let nodes = curp_opening::clients(files.alloc, &files.header, config)?;
     let begun = numbered(files.alloc, NodeKind::Client, nodes)?;
@@ -69,12 +70,12 @@ pub(crate) fn clients(
 pub(crate) fn masters(
     files: &Files<'_>,
     config: &Config,
-) -> Result<Vec<Kept<MasterNode>>, CollectError>
+) -> Result<Vec<Kept<MasterNode>>, Failed<CollectError>>
     requires files { AreOfHeader files.now }
     requires config { config.now ≡ opening_config (shape_of files.now.header) }
     ensures logs { IfOk result (λ logs. AreOfKind kind.Master master_machine (IsMasterJournal files.now.header)
         (contents_of files.now.each.items) files.now.until files.now.header logs.items) }
-    ensures cause { IfErr result (IsCause (contents_of files.now.each.items)) }
+    ensures cause { IfErr result (IfBecause (IsCause (contents_of files.now.each.items))) }
 {
     let nodes = curp_opening::masters(files.alloc, &files.header, config)?;
     let begun = numbered(files.alloc, NodeKind::Master, nodes)?;
@@ -83,11 +84,11 @@ pub(crate) fn masters(
 }
 
 /// The journals of the backups.
-pub(crate) fn backups(files: &Files<'_>) -> Result<Vec<Kept<BackupNode>>, CollectError>
+pub(crate) fn backups(files: &Files<'_>) -> Result<Vec<Kept<BackupNode>>, Failed<CollectError>>
     requires { AreOfHeader files.now }
     ensures logs { IfOk result (λ logs. AreOfKind kind.Backup backup_machine (IsBackupJournal files.now.header)
         (contents_of files.now.each.items) files.now.until files.now.header logs.items) }
-    ensures cause { IfErr result (IsCause (contents_of files.now.each.items)) }
+    ensures cause { IfErr result (IfBecause (IsCause (contents_of files.now.each.items))) }
 {
     let count = files.header.parts * files.header.f;
     let nodes = curp_opening::backups(files.alloc, count)?;
@@ -97,11 +98,11 @@ pub(crate) fn backups(files: &Files<'_>) -> Result<Vec<Kept<BackupNode>>, Collec
 }
 
 /// The journals of the witnesses.
-pub(crate) fn witnesses(files: &Files<'_>) -> Result<Vec<Kept<WitnessNode>>, CollectError>
+pub(crate) fn witnesses(files: &Files<'_>) -> Result<Vec<Kept<WitnessNode>>, Failed<CollectError>>
     requires { AreOfHeader files.now }
     ensures logs { IfOk result (λ logs. AreOfKind kind.Witness witness_machine (IsWitnessJournal files.now.header)
         (contents_of files.now.each.items) files.now.until files.now.header logs.items) }
-    ensures cause { IfErr result (IsCause (contents_of files.now.each.items)) }
+    ensures cause { IfErr result (IfBecause (IsCause (contents_of files.now.each.items))) }
 {
     let header = &files.header;
     let count = header.parts * header.f;

@@ -2,6 +2,7 @@
 ghost use Rattle.std.specs.Prelude.{◌≡◌, false, option_to_list, IfOk, IfErr, OnOk};
 ghost use Rattle.curp_journal.specs.Journal.{next_stamp};
 ghost use Rattle.curp_journal.specs.Own.{IsOwn};
+ghost use Rattle.curp_msg.specs.Told.{IfBecause};
 ghost use Rattle.curp_seat.specs.Making.{with_item};
 ghost use Rattle.curp_collected.specs.Causes.{Fails, FailsSo, IsUnread, OneFails, StopsAt, StopsBy};
 ghost use Rattle.curp_collected.specs.Files.{AreOfHeader, IsFileOf, IsJournalAt, contents_of};
@@ -25,12 +26,12 @@ use curp_title::title_of;
 pub(crate) fn journals_of<N: Core + Drop>(
     files: &Files<'_>,
     begun: Vec<Beginning<N>>,
-) -> Result<Vec<Kept<N>>, CollectError>
+) -> Result<Vec<Kept<N>>, Failed<CollectError>>
     requires { AreOfHeader files.now }
     ensures logs { IfOk result (λ logs.
         HaveLogs N.machine (contents_of files.now.each.items) files.now.until files.now.header begun.items logs.items) }
     ensures cause { IfErr result
-        (OneFails N.machine (contents_of files.now.each.items) files.now.header begun.items) }
+        (IfBecause (OneFails N.machine (contents_of files.now.each.items) files.now.header begun.items)) }
 {
     let mut logs = Vec::new(files.alloc);
     for beginning in begun {
@@ -47,12 +48,12 @@ pub(crate) fn journals_of<N: Core + Drop>(
 pub(crate) fn journal_of<N: Core + Drop>(
     files: &Files<'_>,
     beginning: Beginning<N>,
-) -> Result<Option<Kept<N>>, CollectError>
+) -> Result<Option<Kept<N>>, Failed<CollectError>>
     requires { AreOfHeader files.now }
     ensures log { IfOk result (λ log. HasLog N.machine (contents_of files.now.each.items) files.now.until
         files.now.header beginning (option_to_list log)) }
     ensures cause { IfErr result
-        (Fails N.machine (contents_of files.now.each.items) files.now.header beginning) }
+        (IfBecause (Fails N.machine (contents_of files.now.each.items) files.now.header beginning)) }
 {
     let origin = beginning.origin;
     let id = beginning.id;
@@ -67,7 +68,7 @@ pub(crate) fn journal_of<N: Core + Drop>(
         Origin::Opening => Ok(Some(log)),
         Origin::Fresh if log.journal().is_empty() => Ok(None),
         Origin::Fresh if takes_first(log.journal()) => Ok(Some(log)),
-        Origin::Fresh => Err(CollectError::OrderFirst { file }),
+        Origin::Fresh => Err(Failed::Because(CollectError::OrderFirst { file })),
     }
 }
 
@@ -77,35 +78,40 @@ fn replayed<N: Core + Drop>(
     file: usize,
     id: NodeId,
     node: N,
-) -> Result<Kept<N>, CollectError>
+) -> Result<Kept<N>, Failed<CollectError>>
     requires files { AreOfHeader files.now }
     requires file { IsFileOf files.now.each.items id file }
     ensures log { IfOk result (λ log. IsReplayOf N.machine (contents_of files.now.each.items) files.now.until
         files.now.header file id node log) }
-    ensures cause { IfErr result (FailsSo N.machine (contents_of files.now.each.items) files.now.header id node) }
+    ensures cause { IfErr result
+        (IfBecause (FailsSo N.machine (contents_of files.now.each.items) files.now.header id node)) }
 {
     let inputs = inputs_of(files, file, id)?;
     taken(files, file, inputs, id, node)
 }
 
 /// The inputs in a file, which is that of the node.
-fn inputs_of(files: &Files<'_>, file: usize, id: NodeId) -> Result<Vec<Arrived>, CollectError>
+fn inputs_of(
+    files: &Files<'_>,
+    file: usize,
+    id: NodeId,
+) -> Result<Vec<Arrived>, Failed<CollectError>>
     requires files { AreOfHeader files.now }
     requires file { IsFileOf files.now.each.items id file }
     ensures inputs { IfOk result (λ inputs.
         IsJournalAt (contents_of files.now.each.items) file files.now.header id inputs.items) }
-    ensures cause { IfErr result (IsUnread (contents_of files.now.each.items)) }
+    ensures cause { IfErr result (IfBecause (IsUnread (contents_of files.now.each.items))) }
 {
     let title = title_of(id, &files.header);
     match inputs_in(files.alloc, files.each[file].content, &title) {
         Ok(inputs) => Ok(inputs),
         Err(Failed::Because(OpenError::Damaged { place })) => {
-            Err(CollectError::Damaged { file, place })
+            Err(Failed::Because(CollectError::Damaged { file, place }))
         }
-        Err(Failed::NoMemory) => Err(CollectError::NoMemory),
+        Err(Failed::NoMemory) => Err(Failed::NoMemory),
         // The title was read before, and there is no disk.
         Err(Failed::Because(OpenError::NotFormatted | OpenError::DiskFault)) => {
-            Err(CollectError::NotAJournal { file })
+            Err(Failed::Because(CollectError::NotAJournal { file }))
         }
     }
 }
@@ -117,9 +123,9 @@ fn taken<N: Core + Drop>(
     inputs: Vec<Arrived>,
     id: NodeId,
     node: N,
-) -> Result<Kept<N>, CollectError>
+) -> Result<Kept<N>, Failed<CollectError>>
     ensures log { IfOk result (IsTakenOf N.machine files.now.until id node inputs.items) }
-    ensures cause { IfErr result (StopsAt N.machine id node inputs.items file) }
+    ensures cause { IfErr result (IfBecause (StopsAt N.machine id node inputs.items file)) }
 {
     let mut log = Kept::begin(files.alloc, node, id);
     for input in inputs {
@@ -142,19 +148,23 @@ fn is_past(until: Option<u64>, last: u64, input: &Arrived) -> bool
 }
 
 /// Gives the node an input, and keeps it with what was done.
-fn take<N: Core + Drop>(log: &mut Kept<N>, file: usize, input: Arrived) -> Result<(), CollectError>
+fn take<N: Core + Drop>(
+    log: &mut Kept<N>,
+    file: usize,
+    input: Arrived,
+) -> Result<(), Failed<CollectError>>
     requires { log.old.ended ≡ false }
     ensures added { OnOk result (log.new ≡ with_item N.machine log.old input) }
     ensures own { OnOk result (IsOwn log.old.id input) }
     ensures taken { OnOk result (IsRefusedBy N.machine log.old input → ⊥) }
-    ensures cause { IfErr result (StopsBy N.machine log.old input file) }
+    ensures cause { IfErr result (IfBecause (StopsBy N.machine log.old input file)) }
 {
     let number = log.journal().len() as u64 + 1;
     if !is_own(log.id(), &input) {
-        return Err(CollectError::Foreign { file, number });
+        return Err(Failed::Because(CollectError::Foreign { file, number }));
     }
     match log.step(input)? {
         0 => Ok(()),
-        _ => Err(CollectError::Refused { file, number }),
+        _ => Err(Failed::Because(CollectError::Refused { file, number })),
     }
 }

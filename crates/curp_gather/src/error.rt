@@ -1,4 +1,3 @@
-use std::alloc::AllocError;
 use thiserror::Error;
 
 /// Why ruled journals aren't a script.
@@ -10,17 +9,4 @@ pub enum RuledError {
     /// All that was sent weighs more than 2,000,000.
     #[error("the messages weigh {weight}, which is more than 2,000,000")]
     TooLarge { weight: u64 },
-    #[error("out of memory")]
-    NoMemory,
-}
-
-impl From<AllocError> for RuledError {
-    ghost use Rattle.std.specs.Prelude.{◌≡◌};
-    ghost use Rattle.curp_gather.specs.declared.error.RuledError.TheVariants as error;
-
-    ghost from_gives = { λ _ e. e ≡ error.NoMemory };
-
-    fn from(_error: AllocError) -> RuledError {
-        RuledError::NoMemory
-    }
 }

@@ -3,33 +3,42 @@ ghost use Rattle.curp_gather.specs.Journals.{AreOf, IsScriptOf, journals_of};
 ghost use Rattle.curp_merge.specs.Held.{AllHeld};
 ghost use Rattle.curp_merge.specs.Merging.{turn_count, weight_sent};
 ghost use Rattle.curp_msg.specs.Limits.{step_limit, weight_limit};
+ghost use Rattle.curp_msg.specs.Told.{IfBecause};
 ghost use Rattle.curp_gather.specs.Causes.{IsRuledCause};
 
 use crate::{GatherError, Ruled, RuledError, gather_held, ruled_journals_hold, strands_of};
-use curp_base::NoMemory;
+use curp_base::{Failed, NoMemory};
 use curp_msg::{Header, Step};
 use std::alloc::Global;
 
 /// The script that the ruled journals of a header's nodes are. An error comes exactly by its cause, the first in the
 /// order of `RuledError`; running out of memory comes before each. There is no mismatch, since ruled journals hold each message
 /// that came.
-pub fn gather_ruled(alloc: Global, header: &Header, ruled: &Ruled) -> Result<Vec<Step>, RuledError>
+pub fn gather_ruled(
+    alloc: Global,
+    header: &Header,
+    ruled: &Ruled,
+) -> Result<Vec<Step>, Failed<RuledError>>
     requires { AreOf header.now ruled.now }
     ensures script { IfOk result (λ steps. IsScriptOf header.now (journals_of ruled.now) steps.items) }
     ensures counted { IfOk result (λ steps. length steps.items ≡ turn_count (journals_of ruled.now)) }
     ensures few { IfOk result (λ steps. length steps.items ≤ step_limit) }
     ensures light { IfOk result (λ steps. weight_sent (journals_of ruled.now) ≤ weight_limit) }
-    ensures cause { IfErr result (IsRuledCause (journals_of ruled.now)) }
+    ensures cause { IfErr result (IfBecause (IsRuledCause (journals_of ruled.now))) }
     ensures held { IfOk result (λ steps. AllHeld (journals_of ruled.now)) }
 {
     let journals = ruled.journals();
     hold(alloc, header, ruled)?;
     match gather_held(alloc, header, journals) {
         Ok(steps) => Ok(steps),
-        Err(GatherError::Mismatch { .. }) => unreachable!(),
-        Err(GatherError::TooManySteps) => Err(RuledError::TooManySteps),
-        Err(GatherError::TooLarge { weight }) => Err(RuledError::TooLarge { weight }),
-        Err(GatherError::NoMemory) => Err(RuledError::NoMemory),
+        Err(Failed::NoMemory) => Err(Failed::NoMemory),
+        Err(Failed::Because(GatherError::Mismatch { .. })) => unreachable!(),
+        Err(Failed::Because(GatherError::TooManySteps)) => {
+            Err(Failed::Because(RuledError::TooManySteps))
+        }
+        Err(Failed::Because(GatherError::TooLarge { weight })) => {
+            Err(Failed::Because(RuledError::TooLarge { weight }))
+        }
     }
 }
 

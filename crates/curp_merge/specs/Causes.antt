@@ -1,5 +1,5 @@
 -- Why journals aren't a script (this project's own).
-use Rattle.std.specs.Prelude.{◌≡◌, ◌≤◌, ◌<◌, ◌^◌, ◌-◌, min, List, ⊤}
+use Rattle.std.specs.Prelude.{◌≡◌, ◌≤◌, ◌<◌, ◌^◌, ◌-◌, min, List}
 use Rattle.curp_msg.specs.Limits.{step_limit, weight_limit}
 use Rattle.curp_journal.specs.Turns.{Journal}
 use Rattle.curp_merge.specs.Held.{AllHeld, IsMismatch}
@@ -14,4 +14,3 @@ IsCause journals error.TooManySteps = AllHeld journals × (step_limit < turn_cou
 IsCause journals (error.TooLarge weight) =
     AllHeld journals × (turn_count journals ≤ step_limit) × (weight_limit < weight_sent journals)
     × (weight ≡ min (weight_sent journals) (2 ^ 64 - 1))
-IsCause journals error.NoMemory = ⊤

@@ -1,7 +1,6 @@
 use crate::mismatch::Mismatch;
 use curp_cmd::NodeId;
 use curp_journal::Named;
-use std::alloc::AllocError;
 use thiserror::Error;
 
 /// Why journals aren't a script.
@@ -24,19 +23,6 @@ pub enum GatherError {
     TooLarge {
         weight: u64,
     },
-    #[error("out of memory")]
-    NoMemory,
-}
-
-impl From<AllocError> for GatherError {
-    ghost use Rattle.std.specs.Prelude.{◌≡◌};
-    ghost use Rattle.curp_merge.specs.declared.error.GatherError.TheVariants as error;
-
-    ghost from_gives = { λ _ e. e ≡ error.NoMemory };
-
-    fn from(_error: AllocError) -> GatherError {
-        GatherError::NoMemory
-    }
 }
 
 impl From<Mismatch> for GatherError {

@@ -1,5 +1,5 @@
 -- What `live` writes, and what the script in it shows of the work.
-use Rattle.std.specs.Prelude.{◌≡◌, ◌≢◌, ◌≤◌, ◌⊎◌, ℕ, List, ◌++◌, map, Some, true, ⊤}
+use Rattle.std.specs.Prelude.{◌≡◌, ◌≤◌, ◌⊎◌, ℕ, List, ◌++◌, map, Some, true, ⊤}
 use Rattle.curp_base.specs.Words.{Each, numbers_from}
 use Rattle.curp_io.specs.Streams.{HoldsPart}
 use Rattle.curp_cmd.specs.Node.{manager_node}
@@ -20,7 +20,6 @@ use Rattle.curp_merge.specs.Held.{AllHeld}
 use Rattle.curp_merge.specs.Merging.{turn_count, weight_sent}
 use Rattle.curp_gather.specs.Causes.{IsRuledCause}
 use Rattle.curp_gather.specs.declared.error.RuledError.{RuledError}
-use Rattle.curp_gather.specs.declared.error.RuledError.TheVariants as error
 use Rattle.curp_law_weave.specs.Run.{IsCompletedBy}
 use Rattle.curp_words.specs.declared.task.LivePlan.{LivePlan}
 use Rattle.curp_words.specs.Plan.{live_header}
@@ -59,7 +58,6 @@ pub record IsPlayable (journals : List Journal) : Type 0 where
 -- they aren't: there are too many items, or they sent too much
 pub record IsUnplayable (journals : List Journal) : Type 0 where
   pub why : RuledError
-  pub memory : why ≢ error.NoMemory
   pub cause : IsRuledCause journals why
 
 -- there is a run of the plan in which its work was done, and its journals are none that can be played

@@ -3,6 +3,7 @@ ghost use Rattle.std.specs.Prelude.{◌≢◌};
 ghost use Rattle.curp_test_journals.specs.Lines.{IsLine};
 
 use crate::lines::{are_apart, is_line};
+use curp_base::Failed;
 use curp_cmd::{NodeId, NodeKind};
 use curp_journal::{Arrived, Item, Named};
 use curp_merge::{GatherError, Strand, merge};
@@ -82,7 +83,11 @@ fn asked(rt: &impl Abort, alloc: Global, epochs: &[u32]) -> Vec<Item> {
     items
 }
 
-fn merged(alloc: Global, first: Strand<'_>, second: Strand<'_>) -> Result<Vec<Step>, GatherError>
+fn merged(
+    alloc: Global,
+    first: Strand<'_>,
+    second: Strand<'_>,
+) -> Result<Vec<Step>, Failed<GatherError>>
     requires apart { first.id ≢ second.id }
     requires first { IsLine first }
     requires second { IsLine second }
@@ -96,7 +101,7 @@ fn merging(
     alloc: Global,
     first: Strand<'_>,
     second: Strand<'_>,
-) -> Result<Vec<Step>, GatherError> {
+) -> Result<Vec<Step>, Failed<GatherError>> {
     assert!(rt; are_apart(&first, &second));
     assert!(rt; is_line(&first));
     assert!(rt; is_line(&second));
@@ -126,14 +131,16 @@ fn is_as(told: &Named, taken: Taken) -> bool {
     is_same
 }
 
-fn tells(told: &GatherError, taken: Taken) -> bool {
+fn tells(told: &Failed<GatherError>, taken: Taken) -> bool {
     match told {
-        GatherError::Mismatch {
-            node,
-            step,
-            got,
-            kept: Some(kept),
-        } => (*node, *step) == (BACKUP, 1) && is_as(got, taken) && is_as(kept, FIRST),
+        Failed::Because(
+            GatherError::Mismatch {
+                node,
+                step,
+                got,
+                kept: Some(kept),
+            },
+        ) => (*node, *step) == (BACKUP, 1) && is_as(got, taken) && is_as(kept, FIRST),
         _ => false,
     }
 }

@@ -5,7 +5,7 @@ ghost use Rattle.curp_model.specs.Manager.{opening_config};
 ghost use Rattle.curp_model.specs.World.{shape_of};
 ghost use Rattle.curp_msg.specs.Script.{IsHeader};
 
-use curp_base::{NoMemory, Shared};
+use curp_base::{Failed, NoMemory, Shared};
 use curp_cmd::{Command, Key, NodeId, NodeKind, Value};
 use curp_gather::{GatherError, Journals, gather};
 use curp_journal::{Arrived, Named};
@@ -164,14 +164,16 @@ fn is_same(a: &Named, b: &Named) -> bool {
 
 // Whether a mismatch is at the master's first step, with these two updates: the one that was taken, and the one that the
 // client's journal holds.
-fn tells(told: &GatherError, taken: &Named, sent: &Named) -> bool {
+fn tells(told: &Failed<GatherError>, taken: &Named, sent: &Named) -> bool {
     match told {
-        GatherError::Mismatch {
-            node,
-            step,
-            got,
-            kept: Some(kept),
-        } => {
+        Failed::Because(
+            GatherError::Mismatch {
+                node,
+                step,
+                got,
+                kept: Some(kept),
+            },
+        ) => {
             (*node, *step) == (NodeId::master(1), 1) && is_same(got, taken) && is_same(kept, sent)
         }
         _ => false,

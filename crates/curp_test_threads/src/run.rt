@@ -5,7 +5,7 @@ ghost use Rattle.curp_msg.specs.Script.{IsHeader};
 ghost use Rattle.curp_words.specs.Plan.{IsLivePlan, live_header};
 
 use crate::observer::Watching;
-use curp_base::NoMemory;
+use curp_base::{Failed, NoMemory};
 use curp_cmd::Command;
 use curp_gather::{Ruled, RuledError, gather_ruled};
 use curp_gen::workload;
@@ -110,8 +110,8 @@ fn gathered(alloc: Global, header: &Header, ruled: &Ruled) -> Result<Option<usiz
 {
     match gather_ruled(alloc, header, ruled) {
         Ok(steps) => Ok(Some(steps.len())),
-        Err(RuledError::NoMemory) => Err(AllocError),
-        Err(RuledError::TooManySteps | RuledError::TooLarge { .. }) => Ok(None),
+        Err(Failed::NoMemory) => Err(AllocError),
+        Err(Failed::Because(RuledError::TooManySteps | RuledError::TooLarge { .. })) => Ok(None),
     }
 }
 

@@ -9,14 +9,14 @@ ghost use Rattle.curp_script.specs.Script.{Whole};
 
 use crate::ending::Ending;
 use crate::mismatch::MessageMismatch;
-use curp_base::NoMemory;
+use curp_base::{Failed, NoMemory};
 use curp_collected::{CollectError, FileScript, ScriptError, script_of};
 use curp_gather::GatherError;
 use curp_io::Sink;
 use curp_law_print::printed_scripts_are_read;
 use curp_runner::Status;
 use curp_show::{script_text, write_played};
-use std::alloc::{AllocError, Global};
+use std::alloc::Global;
 use std::fs::{self, File};
 use std::io::ErrorKind;
 use std::rt::Files;
@@ -33,7 +33,8 @@ pub(crate) fn gather<K: Sink>(
     let found = JournalFiles::read(rt, alloc, files)?;
     let text = match script_of(alloc, &found.journals, until) {
         Ok(script) => text_of(alloc, &script)?,
-        Err(error) => return Err(found.ending_of(alloc, &error)),
+        Err(Failed::NoMemory) => return Err(Ending::NoMemory),
+        Err(Failed::Because(error)) => return Err(found.ending_of(alloc, &error)),
     };
     match write_played(alloc, &text, sink) {
         Status::Ok => Ok(()),
@@ -95,14 +96,10 @@ impl<'a> JournalFiles<'a> {
             ScriptError::Gather(GatherError::TooLarge { weight }) => {
                 Ending::TooLarge { weight: *weight }
             }
-            ScriptError::Gather(GatherError::NoMemory) => Ending::NoMemory,
         }
     }
 
     fn no_journals(&self, alloc: Global, error: CollectError) -> Result<Ending, NoMemory> {
-        if error == CollectError::NoMemory {
-            return Err(AllocError);
-        }
         let file = file_of(error).and_then(|file| self.names.get(file));
         let name = String::from_str(alloc, file.copied().unwrap_or("none is there"))?;
         Ok(Ending::NoJournals { error, name })
@@ -112,7 +109,7 @@ impl<'a> JournalFiles<'a> {
 /// The file that an error is of.
 fn file_of(error: CollectError) -> Option<usize> {
     match error {
-        CollectError::NoFile | CollectError::NoMemory => None,
+        CollectError::NoFile => None,
         CollectError::NotAJournal { file }
         | CollectError::OtherHeader { file }
         | CollectError::NoSuchNode { file }

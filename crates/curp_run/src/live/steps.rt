@@ -5,7 +5,7 @@ ghost use Rattle.curp_run.specs.Live.{HasUnplayableRun, IsPlayable, IsUnplayable
 ghost use Rattle.curp_msg.specs.Limits.{step_limit};
 ghost use Rattle.curp_words.specs.Plan.{IsLivePlan, live_header};
 
-use curp_base::NoMemory;
+use curp_base::{Failed, NoMemory};
 use curp_cmd::Command;
 use curp_gather::{Ruled, RuledError, gather_ruled};
 use curp_gen::workload;
@@ -73,8 +73,8 @@ fn script_of(alloc: Global, header: &Header, ruled: &Ruled) -> Result<Option<Vec
 {
     match gather_ruled(alloc, header, ruled) {
         Ok(steps) => Ok(Some(steps)),
-        Err(RuledError::NoMemory) => Err(AllocError),
-        Err(RuledError::TooManySteps | RuledError::TooLarge { .. }) => Ok(None),
+        Err(Failed::NoMemory) => Err(AllocError),
+        Err(Failed::Because(RuledError::TooManySteps | RuledError::TooLarge { .. })) => Ok(None),
     }
 }
 
