@@ -2,10 +2,9 @@ ghost use Rattle.std.specs.Prelude.{◌≡◌, ◌⊎◌, Some, None, Err, IfOk}
 ghost use Rattle.clap.specs.Walk.{texts};
 ghost use Rattle.curp_run.specs.Run.{asked, words_of};
 ghost use Rattle.curp_words.specs.Plan.{fits};
-ghost use Rattle.curp_words.specs.declared.task.WordsError.TheVariants as WordsError;
 
-use curp_base::{NoMemory, past};
-use curp_words::{Task, WordsError, read};
+use curp_base::{Failed, NoMemory, past};
+use curp_words::{Task, Usage, read};
 use std::alloc::Global;
 
 /// The words behind the program's name, which is the first argument.
@@ -21,15 +20,13 @@ pub(crate) fn words_in(alloc: Global, arguments: &[String]) -> Result<Vec<&str>,
 }
 
 /// What the arguments of the program ask for, as `read` has it of the words behind the program's name.
-pub(crate) fn task_of(alloc: Global, arguments: &[String]) -> Result<Task, WordsError>
+pub(crate) fn task_of(alloc: Global, arguments: &[String]) -> Result<Task, Failed<Usage>>
     ensures task { IfOk result (λ task. asked arguments.now ≡ Some task) }
-    ensures usage { result ≡ Err WordsError.Usage → asked arguments.now ≡ None }
+    ensures usage { result ≡ Err (Failed.Because (record {})) → asked arguments.now ≡ None }
     ensures no_task { asked arguments.now ≡ None
-        → (result ≡ Err WordsError.Usage) ⊎ (result ≡ Err WordsError.NoMemory) }
+        → (result ≡ Err (Failed.Because (record {}))) ⊎ (result ≡ Err Failed.NoMemory) }
     ensures in_range { IfOk result fits }
 {
-    match words_in(alloc, arguments) {
-        Ok(words) => read(alloc, &words),
-        Err(NoMemory) => Err(WordsError::NoMemory),
-    }
+    let words = words_in(alloc, arguments)?;
+    read(alloc, &words)
 }

@@ -9,6 +9,7 @@ ghost use Rattle.curp_words.specs.declared.task.Output.{Output};
 use crate::arguments::task_of;
 use crate::live::live_script;
 use crate::script::make_script;
+use curp_base::Failed;
 use curp_io::{Sink, Source};
 use curp_manage::manage_orders;
 use curp_play::{play_history, play_script};
@@ -16,7 +17,7 @@ use curp_runner::{Status, check_claim};
 use curp_seat::Observer;
 use curp_session::answer_requests;
 use curp_session::laws::sessions_are_of_one_thread;
-use curp_words::{Report, Task, WordsError};
+use curp_words::{Report, Task, Usage};
 use std::alloc::Global;
 use std::sync::Wait;
 use std::thread::Threads;
@@ -58,7 +59,7 @@ pub fn run<R: Threads + Wait + Sync, G: Observer + Sync, S: Source, K: Sink>(
             sessions_are_of_one_thread();
             answer_requests(alloc, &plan, source, sink)
         }
-        Err(WordsError::Usage) => Status::Usage,
-        Err(WordsError::NoMemory) => Status::NoMemory,
+        Err(Failed::Because(Usage)) => Status::Usage,
+        Err(Failed::NoMemory) => Status::NoMemory,
     }
 }

@@ -2,14 +2,15 @@
 ghost use Rattle.std.specs.Prelude.{◌<◌};
 
 use crate::streams::{CountingSink, Ended, Failing, NONE, must_hold, sink, source};
+use curp_base::Failed;
 use curp_io::{MemorySource, Sink};
 use curp_runner::Status;
 use curp_session::answer_requests;
-use curp_words::{RespPlan, Task, WordsError, read};
+use curp_words::{RespPlan, Task, Usage, read};
 use std::alloc::Global;
 use std::process::Abort;
 
-fn task(alloc: Global, words: &[&str]) -> Result<Task, WordsError> {
+fn task(alloc: Global, words: &[&str]) -> Result<Task, Failed<Usage>> {
     read(alloc, words)
 }
 

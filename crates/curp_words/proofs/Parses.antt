@@ -17,11 +17,12 @@ use Rattle.clap.specs.declared.parser.matches.Found.{Found}
 use Rattle.clap.specs.declared.parser.matches.ValueSource.TheVariants.{DefaultValue}
 use Rattle.clap.proofs.WalkLemmas.{both, first_value-rows}
 use Rattle.clap.specs.Simple.{App, argument_words, built, matches_of, names_of}
+use Rattle.curp_base.specs.declared.failed.Failed.{Failed}
+use Rattle.curp_base.specs.declared.failed.Failed.TheVariants as failed
 use Rattle.curp_words.specs.Command.{IsRefused, ParserTakes, app_with}
 use Rattle.curp_words.specs.Words.{GivenOptions, Options, given_from, if_once, is_among, is_given, is_once, is_text, is_well_formed, task_with, value_of}
 use Rattle.curp_words.specs.declared.task.Task.{Task}
-use Rattle.curp_words.specs.declared.task.WordsError.{WordsError}
-use Rattle.curp_words.specs.declared.task.WordsError.TheVariants.{NoMemory, Usage}
+use Rattle.curp_words.specs.declared.task.Usage.{Usage}
 use Rattle.curp_words.proofs.Walks.{Ends, Knows, all_agree, at_none, bare_built, by_test, flag_built, has_row_for, kinds_from, or_else_none, row_for, rows_for, rows_from, then_none, valued_built, with_rules}
 
 -- ---- the rules
@@ -333,27 +334,27 @@ module _ (options : Options) (task : (Text → Option Text) → Option Task) (re
       go (Some given) (inl once) = absurd (fails (fault_is words ∙ once.1))
       go (Some given) (inr twice) = rw twice.0 refl
 
-  abbrev HasTask : List Text → Result Task WordsError → Type 0
+  abbrev HasTask : List Text → Result Task (Failed Usage) → Type 0
   HasTask words r = IfOk r (λ made. task_with options task words ≡ Some made)
 
-  abbrev HasNone : List Text → Result Task WordsError → Type 0
-  HasNone words r = IfErr r (λ error. error ≢ NoMemory → task_with options task words ≡ None)
+  abbrev HasNone : List Text → Result Task (Failed Usage) → Type 0
+  HasNone words r = IfErr r (λ error. error ≢ failed.NoMemory → task_with options task words ≡ None)
 
   -- an option as a result
-  as_result : (words : List Text) (o : Option Task) → task_with options task words ≡ o → HasTask words (ok_or o Usage) × HasNone words (ok_or o Usage)
+  as_result : (words : List Text) (o : Option Task) → task_with options task words ≡ o → HasTask words (ok_or o (failed.Because (record {}))) × HasNone words (ok_or o (failed.Because (record {})))
   as_result words None e = (tt, λ other. e)
   as_result words (Some made) e = (e, tt)
 
   -- what is read of the matches of the words, or of their fault
   module _ (app : App) (app_is : app ≡ app_with options) (words : List Text) where
     pub by_matches : (matches : ArgMatches) → (is_simple_and_free app ≡ true → ParserTakes app words matches) → (o : Option Task)
-        → o ≡ task (first_value (found_of matches)) → (r : Result Task WordsError) → r ≡ ok_or o Usage → HasTask words r × HasNone words r
+        → o ≡ task (first_value (found_of matches)) → (r : Result Task (Failed Usage)) → r ≡ ok_or o (failed.Because (record {})) → HasTask words r × HasNone words r
     by_matches matches takes o reads r is =
         subst (λ result. HasTask words result × HasNone words result) (sym is)
         (as_result words o (taken words matches (subst (λ (a : App). ParserTakes a words matches) app_is (takes (ap is_simple_and_free app_is ∙ reads_by.word.is_free))) ∙ sym reads))
 
-    pub by_fault : (error : WordsError) → (is_simple_and_free app ≡ true → error ≢ NoMemory → IsRefused app words)
-        → (r : Result Task WordsError) → r ≡ Err error → HasNone words r
+    pub by_fault : (error : Failed Usage) → (is_simple_and_free app ≡ true → error ≢ failed.NoMemory → IsRefused app words)
+        → (r : Result Task (Failed Usage)) → r ≡ Err error → HasNone words r
     by_fault error refuses r is =
         subst (HasNone words) (sym is)
         (λ other. refused words (subst (λ (a : App). IsRefused a words) app_is (refuses (ap is_simple_and_free app_is ∙ reads_by.word.is_free) other)))

@@ -8,6 +8,8 @@ use Rattle.clap.specs.Lexer.{long_of, strip_byte}
 use Rattle.clap.specs.Walk.{Text}
 use Rattle.clap.specs.declared.error.kind.ErrorKind.{ErrorKind}
 use Rattle.clap.specs.declared.error.kind.ErrorKind.TheVariants as kind
+use Rattle.curp_base.specs.declared.failed.Failed.{Failed}
+use Rattle.curp_base.specs.declared.failed.Failed.TheVariants as failed
 use Rattle.curp_msg.specs.Limits.{step_limit}
 use Rattle.curp_msg.specs.declared.script.Protocol.{Protocol}
 use Rattle.curp_msg.specs.declared.script.Protocol.TheVariants.{One, Two}
@@ -22,8 +24,7 @@ use Rattle.curp_words.specs.declared.task.Report.TheVariants.{Steps, History}
 use Rattle.curp_words.specs.declared.task.RespOutput.{RespOutput}
 use Rattle.curp_words.specs.declared.task.RespOutput.TheVariants as shown
 use Rattle.curp_words.specs.declared.task.RespPlan.{RespPlan}
-use Rattle.curp_words.specs.declared.task.WordsError.{WordsError}
-use Rattle.curp_words.specs.declared.task.WordsError.TheVariants.{Usage, NoMemory}
+use Rattle.curp_words.specs.declared.task.Usage.{Usage}
 
 -- ---- the options
 
@@ -275,7 +276,7 @@ task_in words = option_or (plain_in words) (option_or (make_in words) (option_or
 
 -- ---- what is no task
 
--- the error of words that the parser refuses
-abbrev pub refusal : ErrorKind → WordsError
-refusal kind.OutOfMemory = NoMemory
-refusal _ = Usage
+-- why there is no task of words that the parser refuses
+abbrev pub refusal : ErrorKind → Failed Usage
+refusal kind.OutOfMemory = failed.NoMemory
+refusal _ = failed.Because (record {})

@@ -3,9 +3,9 @@ ghost use Rattle.clap.specs.Walk.{texts};
 ghost use Rattle.curp_words.specs.Blame.{IsBlamed, is_beginning, is_line_with, value_endings, word_endings};
 ghost use Rattle.curp_words.specs.Words.{task_in};
 
-use crate::task::WordsError;
+use crate::task::Usage;
 use crate::words::read;
-use curp_base::NoMemory;
+use curp_base::{Failed, NoMemory};
 use std::alloc::{AllocError, Global};
 
 /// The place of the word that it is about where words are no command line, counted from 0: the first with which no
@@ -63,7 +63,7 @@ fn is_line(alloc: Global, words: &[&str], ending: &[&str]) -> Result<bool, NoMem
     line.extend_from_slice(ending)?;
     match read(alloc, &line) {
         Ok(_) => Ok(true),
-        Err(WordsError::Usage) => Ok(false),
-        Err(WordsError::NoMemory) => Err(AllocError),
+        Err(Failed::Because(Usage)) => Ok(false),
+        Err(Failed::NoMemory) => Err(AllocError),
     }
 }

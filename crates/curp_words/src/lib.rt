@@ -20,5 +20,5 @@ mod task;
 mod words;
 
 pub use blame::blamed;
-pub use task::{LivePlan, MakePlan, Output, Report, RespOutput, RespPlan, Task, WordsError};
+pub use task::{LivePlan, MakePlan, Output, Report, RespOutput, RespPlan, Task, Usage};
 pub use words::read;

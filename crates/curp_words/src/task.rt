@@ -3,7 +3,6 @@ ghost use Rattle.curp_msg.specs.Script.{IsHeader};
 ghost use Rattle.curp_words.specs.Plan.{IsLivePlan, IsPlan, header_of, live_header};
 
 use curp_msg::{Header, Protocol};
-use std::alloc::AllocError;
 use thiserror::Error;
 
 /// What a run of the program is to do.
@@ -90,16 +89,10 @@ pub enum Output {
     Summary,
 }
 
-/// Why there is no task.
+/// There is no task: the words are no command line.
 #[derive(Clone, Copy, Debug, PartialEq, Eq, Error)]
-pub enum WordsError {
-    /// The words are no command line.
-    #[error("the words are no command line")]
-    Usage,
-    /// There was no memory to read them.
-    #[error("out of memory")]
-    NoMemory,
-}
+#[error("the words are no command line")]
+pub struct Usage;
 
 impl MakePlan {
     /// The header of the script: clients are fast.
@@ -190,32 +183,6 @@ impl Default for RespPlan {
             f: 3,
             every: 0,
             output: RespOutput::Replies,
-        }
-    }
-}
-
-impl From<AllocError> for WordsError {
-    ghost use Rattle.std.specs.Prelude.{◌≡◌};
-    ghost use Rattle.curp_words.specs.declared.task.WordsError.TheVariants as error;
-
-    ghost from_gives = { λ _ e. e ≡ error.NoMemory };
-
-    fn from(_error: AllocError) -> WordsError {
-        WordsError::NoMemory
-    }
-}
-
-impl From<clap::Error> for WordsError {
-    ghost use Rattle.std.specs.Prelude.{◌≡◌};
-    ghost use Rattle.clap.specs.Values.{kind_of};
-    ghost use Rattle.curp_words.specs.Words.{refusal};
-
-    ghost from_gives = { λ error e. e ≡ refusal (kind_of error) };
-
-    fn from(error: clap::Error) -> WordsError {
-        match error.kind() {
-            clap::error::ErrorKind::OutOfMemory => WordsError::NoMemory,
-            _ => WordsError::Usage,
         }
     }
 }

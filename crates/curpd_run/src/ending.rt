@@ -109,11 +109,11 @@ impl From<Status> for Ending {
     }
 }
 
-impl From<CurpdWordsError> for Ending {
-    fn from(error: CurpdWordsError) -> Ending {
-        match error {
-            CurpdWordsError::NoMemory => Ending::NoMemory,
-            _ => Ending::Words(error),
+impl From<Failed<CurpdWordsError>> for Ending {
+    fn from(failed: Failed<CurpdWordsError>) -> Ending {
+        match failed {
+            Failed::NoMemory => Ending::NoMemory,
+            Failed::Because(error) => Ending::Words(error),
         }
     }
 }

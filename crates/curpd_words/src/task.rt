@@ -40,6 +40,4 @@ pub enum CurpdWordsError {
     NoClient,
     #[error("no header: {0}")]
     Header(LineError),
-    #[error("out of memory")]
-    NoMemory,
 }

@@ -11,15 +11,20 @@ use curp_script::{LineError, LineReader};
 use std::alloc::{AllocError, Global};
 
 /// What the words behind the program's name ask for.
-pub fn read<'a>(alloc: Global, words: &'a [&'a str]) -> Result<CurpdTask<'a>, CurpdWordsError>
+pub fn read<'a>(
+    alloc: Global,
+    words: &'a [&'a str],
+) -> Result<CurpdTask<'a>, Failed<CurpdWordsError>>
     ensures valid { IfOk result HasHeader }
 {
-    let matches = parser(alloc)?.try_get_matches_from(words)?;
+    let matches = parser(alloc)?
+        .try_get_matches_from(words)
+        .map_err(no_matches)?;
     match matches.subcommand() {
         Some(("format", found)) => Ok(CurpdTask::Format(seat(alloc, found)?)),
         Some(("node", found)) => node(alloc, found),
         Some((_, found)) => gather(alloc, found),
-        None => Err(CurpdWordsError::Name),
+        None => Err(Failed::Because(CurpdWordsError::Name)),
     }
 }
 
@@ -95,36 +100,48 @@ fn gather_command<'a>(alloc: Global) -> Result<Command<'a>, AllocError> {
         .arg(until)
 }
 
-fn seat<'a>(alloc: Global, matches: &ArgMatches<'a>) -> Result<Seat<'a>, CurpdWordsError>
+fn seat<'a>(alloc: Global, matches: &ArgMatches<'a>) -> Result<Seat<'a>, Failed<CurpdWordsError>>
     ensures { IfOk result (λ seat. bad_field seat.header ≡ None) }
 {
     let name = text(matches, "name")?;
     let journal = text(matches, "journal")?;
     let header = text(matches, "header")?;
-    Ok(Seat {
-        node: node_named(name).ok_or(CurpdWordsError::Name)?,
-        header: LineReader::new(alloc).parse_header(header.as_bytes())?,
-        journal,
-    })
+    let node = node_named(name).ok_or(Failed::Because(CurpdWordsError::Name))?;
+    match LineReader::new(alloc).parse_header(header.as_bytes()) {
+        Ok(header) => Ok(Seat {
+            node,
+            header,
+            journal,
+        }),
+        Err(why) => Err(no_header(why)),
+    }
 }
 
-fn node<'a>(alloc: Global, matches: &ArgMatches<'a>) -> Result<CurpdTask<'a>, CurpdWordsError>
+fn node<'a>(
+    alloc: Global,
+    matches: &ArgMatches<'a>,
+) -> Result<CurpdTask<'a>, Failed<CurpdWordsError>>
     ensures { IfOk result HasHeader }
 {
     let seat = seat(alloc, matches)?;
     match (matches.get_flag("resp"), seat.node.kind) {
         (false, _) => Ok(CurpdTask::Node(seat)),
         (true, NodeKind::Client) => Ok(CurpdTask::Front(seat)),
-        (true, _) => Err(CurpdWordsError::NoClient),
+        (true, _) => Err(Failed::Because(CurpdWordsError::NoClient)),
     }
 }
 
 /// The value of an option that the parser requires.
-fn text<'a>(matches: &ArgMatches<'a>, name: &str) -> Result<&'a str, CurpdWordsError> {
-    matches.get_str(name).ok_or(CurpdWordsError::Name)
+fn text<'a>(matches: &ArgMatches<'a>, name: &str) -> Result<&'a str, Failed<CurpdWordsError>> {
+    matches
+        .get_str(name)
+        .ok_or(Failed::Because(CurpdWordsError::Name))
 }
 
-fn gather<'a>(alloc: Global, matches: &ArgMatches<'a>) -> Result<CurpdTask<'a>, CurpdWordsError>
+fn gather<'a>(
+    alloc: Global,
+    matches: &ArgMatches<'a>,
+) -> Result<CurpdTask<'a>, Failed<CurpdWordsError>>
     ensures { IfOk result HasHeader }
 {
     Ok(CurpdTask::Gather {
@@ -141,26 +158,18 @@ fn files<'a>(alloc: Global, matches: &ArgMatches<'a>) -> Result<Vec<&'a str>, Al
     Ok(files)
 }
 
-impl From<clap::Error> for CurpdWordsError {
-    fn from(error: clap::Error) -> CurpdWordsError {
-        match error.kind() {
-            clap::error::ErrorKind::OutOfMemory => CurpdWordsError::NoMemory,
-            _ => CurpdWordsError::Words(error),
-        }
+/// Why there is no task where the parser has no matches.
+fn no_matches(error: clap::Error) -> Failed<CurpdWordsError> {
+    match error.kind() {
+        clap::error::ErrorKind::OutOfMemory => Failed::NoMemory,
+        _ => Failed::Because(CurpdWordsError::Words(error)),
     }
 }
 
-impl From<AllocError> for CurpdWordsError {
-    fn from(_: AllocError) -> CurpdWordsError {
-        CurpdWordsError::NoMemory
-    }
-}
-
-impl From<Failed<LineError>> for CurpdWordsError {
-    fn from(failed: Failed<LineError>) -> CurpdWordsError {
-        match failed {
-            Failed::NoMemory => CurpdWordsError::NoMemory,
-            Failed::Because(reason) => CurpdWordsError::Header(reason),
-        }
+/// Why there is none where a text is no header.
+fn no_header(why: Failed<LineError>) -> Failed<CurpdWordsError> {
+    match why {
+        Failed::NoMemory => Failed::NoMemory,
+        Failed::Because(reason) => Failed::Because(CurpdWordsError::Header(reason)),
     }
 }
