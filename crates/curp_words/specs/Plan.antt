@@ -1,5 +1,5 @@
 -- The plans of `make`, `live` and `resp`.
-use Rattle.std.specs.Prelude.{◌≡◌, ◌≤◌, ◌^◌, ◌-◌, true, ⊤}
+use Rattle.std.specs.Prelude.{◌≤◌, ◌^◌, ◌-◌, true, ⊤}
 use Rattle.curp_msg.specs.Limits.{step_limit}
 use Rattle.curp_msg.specs.Script.{IsHeader}
 use Rattle.curp_msg.specs.declared.script.Header.{Header}

@@ -7,11 +7,11 @@ use Rattle.clap.proofs.WalkLemmas.{both}
 use Rattle.curp_words.specs.Words.{is_well_formed}
 use Rattle.curp_words.proofs.words.parsed.Goals as goal
 
-pub returns-clause-ok : goal.returns-clause-ok
-returns-clause-ok c = λ simple.
+pub returns-in-Ok-clause-ok : goal.returns-in-Ok-clause-ok
+returns-in-Ok-clause-ok c = λ simple.
     let well : list_all is_well_formed (texts c.args.words.now) ≡ true = search rules in
     record {
       well = well;
-      no_fault = c.in_ok-matches.ensures.kinds simple;
-      rows = (c.in_ok-matches.ensures.matches (both (is_simple (app_of c.args.command)) (is_free_app (built (app_of c.args.command))) simple).0).0;
+      no_fault = c.in-Ok.ensures.kinds simple;
+      rows = (c.in-Ok.ensures.matches (both (is_simple (app_of c.args.command)) (is_free_app (built (app_of c.args.command))) simple).0).0;
     }
