@@ -3,12 +3,15 @@ use Rattle.std.specs.Prelude.{◌≡◌, ℕ, zero, suc, ◌<◌, List, [], ◌�
 use Rattle.std.proofs.Common.{inl, inr, sym, ◌∙◌, ap, subst, arith}
 use Rattle.curp_base.specs.Words.{Each, numbered}
 use Rattle.curp_base.proofs.Lists.{Each-at}
+use Rattle.curp_base.specs.declared.failed.Failed.{Failed}
+use Rattle.curp_base.specs.declared.failed.Failed.TheVariants as failed
 use Rattle.curp_cmd.specs.Node.{manager_node}
 use Rattle.curp_cmd.specs.declared.node.NodeId.{NodeId}
 use Rattle.curp_cmd.specs.declared.node.NodeKind.{NodeKind}
 use Rattle.curp_cmd.specs.declared.node.NodeKind.TheVariants as kinds
 use Rattle.curp_msg.specs.Moved.{Moved, Node}
 use Rattle.curp_msg.specs.Input.{Input}
+use Rattle.curp_msg.specs.Told.{IfBecause}
 use Rattle.curp_msg.specs.declared.script.Header.{Header}
 use Rattle.curp_journal.specs.declared.arrived.Arrived.{Arrived}
 use Rattle.curp_model.specs.Backup.{BackupState, fresh_backup}
@@ -21,7 +24,7 @@ use Rattle.curp_client.specs.Machine.{client_machine}
 use Rattle.curp_config.specs.Machine.{manager_machine}
 use Rattle.curp_nodes.specs.Machines.{backup_machine, master_machine, witness_machine}
 use Rattle.curp_collected.proofs.Counts.{backup_count, client_count, master_count, witness_count}
-use Rattle.curp_collected.specs.Causes.{Fails, FailsSo, IsCause, IsUnread, OneFails, RefusedBy, StopsAt, begun_as, count_there}
+use Rattle.curp_collected.specs.Causes.{Fails, FailsSo, IsCause, OneFails, RefusedBy, StopsAt, begun_as, count_there}
 use Rattle.curp_collected.specs.Files.{IsJournalAt}
 use Rattle.curp_collected.specs.Kinds.{BeginsBy}
 use Rattle.curp_collected.specs.Taking.{IsRefusedAt}
@@ -29,6 +32,11 @@ use Rattle.curp_collected.specs.declared.beginning.Beginning.{Beginning}
 use Rattle.curp_journal.specs.declared.origin.Origin.TheVariants as origin
 use Rattle.curp_collected.specs.declared.error.CollectError.{CollectError}
 use Rattle.curp_collected.specs.declared.error.CollectError.TheVariants as error
+
+-- a reason that is such a one is also one of which that says less
+pub IfBecause-weaker : {E : Type 0} (why : Failed E) (P Q : E → Type 0) → ((reason : E) → P reason → Q reason) → IfBecause P why → IfBecause Q why
+IfBecause-weaker failed.NoMemory P Q weaker is = tt
+IfBecause-weaker (failed.Because reason) P Q weaker is = weaker reason is
 
 -- ---- the causes of one node's journal are those of the files
 

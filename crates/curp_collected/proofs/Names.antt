@@ -1,14 +1,14 @@
 -- Numbers of nodes that there may be.
-use Rattle.std.specs.Prelude.{◌≡◌, ◌≢◌, ◌≤◌, ◌==◌, Bool, true, false, not, List}
-use Rattle.std.proofs.Common.{inl, inr, sym, ◌∙◌, ap, subst, arith, cond}
+use Rattle.std.specs.Prelude.{◌≡◌, ◌≤◌, ◌==◌, true, false, not, List}
+use Rattle.std.proofs.Common.{inl, inr, ◌∙◌, ap, subst, arith, cond}
 use Rattle.std.proofs.lemmas.Bool.{cases_eq, ne_eqb}
-use Rattle.curp_base.specs.Words.{At, Each}
+use Rattle.curp_base.specs.Words.{Each}
 use Rattle.curp_base.proofs.Lists.{Each-at}
 use Rattle.curp_cmd.specs.Node.{manager_node, same_kind}
 use Rattle.curp_cmd.specs.declared.node.NodeId.{NodeId}
 use Rattle.curp_cmd.specs.declared.node.NodeKind.{NodeKind}
 use Rattle.curp_cmd.specs.declared.node.NodeKind.TheVariants as kinds
-use Rattle.curp_items.specs.Items.{IsNodeName, is_node}
+use Rattle.curp_items.specs.Items.{IsNodeName}
 use Rattle.curp_msg.specs.declared.script.Header.{Header}
 use Rattle.curp_collected.specs.Files.{IsOfHeader}
 use Rattle.curp_collected.specs.declared.files.File.{File}

@@ -1,6 +1,6 @@
 -- The journal of one node, by whether it has a file and how it begins.
 use Rattle.std.specs.Prelude.{◌≡◌, ◌≢◌, ℕ, ◌+◌, ◌≤◌, ◌==◌, Bool, true, false, List, [], ◌∷◌, ◌++◌, length, drop, take, refl}
-use Rattle.std.proofs.Common.{inl, inr, sym, ◌∙◌, ap, subst, arith, cond, length-append}
+use Rattle.std.proofs.Common.{inl, inr, sym, ap, subst, arith, cond, length-append}
 use Rattle.std.proofs.lemmas.List.{length-take}
 use Rattle.curp_cmd.specs.declared.node.NodeId.{NodeId}
 use Rattle.curp_msg.specs.Moved.{Moved}
@@ -22,7 +22,7 @@ use Rattle.curp_collected.specs.Taking.{AreTaken, HasNone, IsReplayOf, NoneWante
 use Rattle.curp_collected.specs.declared.beginning.Beginning.{Beginning}
 use Rattle.curp_journal.specs.declared.origin.Origin.TheVariants.{Opening, Fresh}
 use Rattle.curp_collected.specs.declared.files.Files.{Files}
-use Rattle.curp_collected.proofs.Finding.{has_none, one_file, title_for, title_of_journal}
+use Rattle.curp_collected.proofs.Finding.{has_none, one_file, title_of_journal}
 
 -- ---- the first input of a node that takes all
 

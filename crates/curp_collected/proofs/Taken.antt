@@ -20,7 +20,7 @@ use Rattle.curp_read_journal.specs.Items.{items_of, log_of}
 use Rattle.curp_read_journal.proofs.Following.{log_follows, turn}
 use Rattle.curp_seat.specs.Making.{item_of, with_item}
 use Rattle.curp_collected.specs.Causes.{StopsAt, StopsBy}
-use Rattle.curp_collected.specs.Taking.{AreTaken, IsRefusedBy, IsTakenOf, NoneWanted, is_past}
+use Rattle.curp_collected.specs.Taking.{IsRefusedBy, IsTakenOf, NoneWanted, is_past}
 use Rattle.curp_collected.specs.declared.error.CollectError.{CollectError}
 use Rattle.curp_collected.specs.declared.error.CollectError.TheVariants as error
 

@@ -1,6 +1,6 @@
 -- The journals of all kinds together.
 use Rattle.std.specs.Prelude.{◌≡◌, ℕ, ◌+◌, List, [], ◌∷◌, ◌++◌, length, map, refl}
-use Rattle.std.proofs.Common.{inl, inr, sym, ◌∙◌, ap, subst}
+use Rattle.std.proofs.Common.{inl, inr, sym, ◌∙◌, subst}
 use Rattle.curp_base.specs.Words.{At, Each}
 use Rattle.curp_base.proofs.Lists.{Each-append, Each-at, Each-map, at_append, at_append_right, at_map, at_mapped}
 use Rattle.curp_cmd.specs.declared.node.NodeId.{NodeId}

@@ -5,7 +5,7 @@ use Rattle.curp_model.specs.Client.{fresh_client}
 use Rattle.curp_model.specs.World.{opening}
 use Rattle.curp_collected.specs.Files.{contents_of}
 use Rattle.curp_collected.specs.Kinds.{AreThere}
-use Rattle.curp_collected.proofs.Failing.{client_cause}
+use Rattle.curp_collected.proofs.Failing.{IfBecause-weaker, client_cause}
 use Rattle.curp_collected.proofs.Openings.{clients_begun, clients_of}
 use Rattle.curp_collected.proofs.kinds.clients.Goals as goal
 
@@ -36,4 +36,4 @@ returns-clause-cause c =
       numbers = c.in_ok-nodes.ensures.numbers;
       states_are = c.in_ok-nodes.ensures.states ∙ ap (λ config. replicate h.clients (fresh_client h.fast h.protocol config)) c.requires.config;
     } in
-    IfErr-weaker c.journals_of.result _ _ (client_cause (contents_of files.each.items) h begun (clients_begun files c.requires.files begun there).each) c.journals_of.ensures.cause
+    IfErr-weaker c.journals_of.result _ _ (λ why. IfBecause-weaker why _ _ (client_cause (contents_of files.each.items) h begun (clients_begun files c.requires.files begun there).each)) c.journals_of.ensures.cause

@@ -1,7 +1,8 @@
 use Rattle.std.proofs.lemmas.Result.{err_from_is_err_and}
+use Rattle.curp_msg.specs.Told.{IfBecause}
 use Rattle.curp_collected.specs.Causes.{IsCause}
 use Rattle.curp_collected.specs.Files.{contents_of}
-use Rattle.curp_collected.proofs.Failing.{manager_cause}
+use Rattle.curp_collected.proofs.Failing.{IfBecause-weaker, manager_cause}
 use Rattle.curp_collected.proofs.Openings.{manager_log}
 use Rattle.curp_collected.proofs.kinds.manager.Goals as goal
 
@@ -9,8 +10,8 @@ pub returns-in_err-log-clause-cause : goal.returns-in_err-log-clause-cause
 returns-in_err-log-clause-cause c =
     let files = c.args.files.now in
     let why = c.in_err-log.field-0.0 in
-    let cause : IsCause (contents_of files.each.items) why =
-    manager_cause (contents_of files.each.items) files.header c.args.manager c.requires.manager why (rw c.manager.ensures at c.in_err-log.ensures.cause) in
+    let cause : IfBecause (IsCause (contents_of files.each.items)) why =
+    IfBecause-weaker why _ _ (manager_cause (contents_of files.each.items) files.header c.args.manager c.requires.manager) (rw c.manager.ensures at c.in_err-log.ensures.cause) in
     let given = err_from_is_err_and c.from_residual.result c.from_residual.ensures.1 in
     rw (given.1, given.2) cause
 

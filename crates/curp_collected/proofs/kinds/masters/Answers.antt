@@ -7,7 +7,7 @@ use Rattle.curp_nodes.specs.Machines.{master_machine}
 use Rattle.curp_gather.specs.Journals.{IsMasterJournal}
 use Rattle.curp_collected.specs.Files.{contents_of}
 use Rattle.curp_collected.proofs.Counts.{master_count}
-use Rattle.curp_collected.proofs.Failing.{master_cause}
+use Rattle.curp_collected.proofs.Failing.{IfBecause-weaker, master_cause}
 use Rattle.curp_collected.proofs.Logs.{of_kind}
 use Rattle.curp_collected.proofs.Openings.{few_masters}
 use Rattle.curp_collected.proofs.kinds.masters.Goals as goal
@@ -41,4 +41,4 @@ pub returns-clause-cause : goal.returns-clause-cause
 returns-clause-cause c =
     let files = c.args.files.now in
     let begun = c.in_ok-begun-2.begun.items in
-    IfErr-weaker c.journals_of.result _ _ (master_cause (contents_of files.each.items) files.header begun c.in_ok-begun-2.ensures.each) c.journals_of.ensures.cause
+    IfErr-weaker c.journals_of.result _ _ (λ why. IfBecause-weaker why _ _ (master_cause (contents_of files.each.items) files.header begun c.in_ok-begun-2.ensures.each)) c.journals_of.ensures.cause

@@ -7,7 +7,7 @@ use Rattle.curp_nodes.specs.Machines.{witness_machine}
 use Rattle.curp_gather.specs.Journals.{IsWitnessJournal}
 use Rattle.curp_collected.specs.Files.{contents_of}
 use Rattle.curp_collected.proofs.Counts.{witness_count}
-use Rattle.curp_collected.proofs.Failing.{witness_cause}
+use Rattle.curp_collected.proofs.Failing.{IfBecause-weaker, witness_cause}
 use Rattle.curp_collected.proofs.Logs.{of_kind}
 use Rattle.curp_collected.proofs.kinds.witnesses.Goals as goal
 
@@ -36,4 +36,4 @@ pub returns-clause-cause : goal.returns-clause-cause
 returns-clause-cause c =
     let files = c.args.files.now in
     let begun = c.in_ok-begun-2.begun.items in
-    IfErr-weaker c.journals_of.result _ _ (witness_cause (contents_of files.each.items) files.header begun c.in_ok-begun-2.ensures.each) c.journals_of.ensures.cause
+    IfErr-weaker c.journals_of.result _ _ (λ why. IfBecause-weaker why _ _ (witness_cause (contents_of files.each.items) files.header begun c.in_ok-begun-2.ensures.each)) c.journals_of.ensures.cause

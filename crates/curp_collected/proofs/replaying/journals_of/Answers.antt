@@ -5,23 +5,13 @@ use Rattle.std.proofs.lemmas.List.{append-nil}
 use Rattle.std.proofs.lemmas.Option.{slice_get_read}
 use Rattle.std.proofs.lemmas.Result.{err_from_is_err_and}
 use Rattle.curp_base.specs.Words.{At}
+use Rattle.curp_msg.specs.Told.{IfBecause}
 use Rattle.curp_collected.specs.Causes.{OneFails}
 use Rattle.curp_collected.specs.Files.{contents_of}
 use Rattle.curp_collected.specs.Kinds.{HasLog, HaveLogs}
+use Rattle.curp_collected.proofs.Failing.{IfBecause-weaker}
 use Rattle.curp_collected.proofs.Logs.{logs_push}
 use Rattle.curp_collected.proofs.replaying.journals_of.Goals as goal
-
-pub returns-in_err-reserve-clause-cause : goal.returns-in_err-reserve-clause-cause
-returns-in_err-reserve-clause-cause g c =
-    let begun = c.args.begun.items in
-    let b = c.in-Some.beginning in
-    let from = c.into_iter-beginning-iterator.ensures.into_iter_gives in
-    let long : c.into_iter-beginning-iterator.result.rest.len ≡ length begun = search rules in
-    let done = c.loop-beginning.yielded in
-    let turn = YieldsList-turn (YieldsList-from_vec begun from.0 long) done c.loop-beginning.beginning-iterator c.loop-beginning.yielded_by c.next.result c.next.new.self b c.in-Some.is c.next.ensures.steps in
-    let at : At begun (length done) b = slice_get_read begun (length begun) (length done) b refl turn.0 turn.1 in
-    let given = err_from_is_err_and c.from_residual.result c.from_residual.ensures.1 in
-    rw (given.1, given.2) (record { place = length done; b = b; stands = at; fails = tt })
 
 pub returns-in_err-log-clause-cause : goal.returns-in_err-log-clause-cause
 returns-in_err-log-clause-cause g c =
@@ -33,8 +23,8 @@ returns-in_err-log-clause-cause g c =
     let turn = YieldsList-turn (YieldsList-from_vec begun from.0 long) done c.loop-beginning.beginning-iterator c.loop-beginning.yielded_by c.next.result c.next.new.self b c.in-Some.is c.next.ensures.steps in
     let at : At begun (length done) b = slice_get_read begun (length begun) (length done) b refl turn.0 turn.1 in
     let files = c.args.files.now in
-    let fails : OneFails g.N.Core.machine (contents_of files.each.items) files.header begun c.in_err-log.field-0.0 =
-    record { place = length done; b = b; stands = at; fails = c.in_err-log.ensures.cause } in
+    let fails : IfBecause (OneFails g.N.Core.machine (contents_of files.each.items) files.header begun) c.in_err-log.field-0.0 =
+    IfBecause-weaker c.in_err-log.field-0.0 _ _ (λ why its. record { place = length done; b = b; stands = at; fails = its }) c.in_err-log.ensures.cause in
     let given = err_from_is_err_and c.from_residual-in_err-log.result c.from_residual-in_err-log.ensures.1 in
     rw (given.1, given.2) fails
 

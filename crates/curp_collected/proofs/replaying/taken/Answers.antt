@@ -6,8 +6,10 @@ use Rattle.std.proofs.lemmas.Option.{slice_get_read}
 use Rattle.std.proofs.lemmas.Result.{err_from_is_err_and}
 use Rattle.curp_base.specs.Words.{At}
 use Rattle.curp_journal.specs.Journal.{last_stamp, next_stamp}
+use Rattle.curp_msg.specs.Told.{IfBecause}
 use Rattle.curp_collected.specs.Causes.{StopsAt}
 use Rattle.curp_collected.specs.Taking.{is_past}
+use Rattle.curp_collected.proofs.Failing.{IfBecause-weaker}
 use Rattle.curp_collected.proofs.Taken.{past_rest, stops_at, taken_next, taken_so}
 use Rattle.curp_collected.proofs.replaying.taken.Goals as goal
 
@@ -48,7 +50,7 @@ returns-in_err-take-clause-cause g c =
     let at : At inputs (length done) input = slice_get_read inputs (length inputs) (length done) input refl turn.0 turn.1 in
     let so_far : done ≡ take (length done) inputs = sym (map-id done) ∙ YieldsList-so_far road done c.loop-input.input-iterator c.loop-input.yielded_by in
     let why = c.in_err-take.field-0.0 in
-    let stops : StopsAt g.N.Core.machine c.args.id c.args.node inputs c.args.file why =
-    stops_at g.N.Core.machine c.args.files.now.until c.args.id c.args.node inputs done c.loop-input.log input c.args.file why c.loop-input.invariant at so_far c.in_err-take.ensures.cause in
+    let stops : IfBecause (StopsAt g.N.Core.machine c.args.id c.args.node inputs c.args.file) why =
+    IfBecause-weaker why _ _ (λ reason. stops_at g.N.Core.machine c.args.files.now.until c.args.id c.args.node inputs done c.loop-input.log input c.args.file reason c.loop-input.invariant at so_far) c.in_err-take.ensures.cause in
     let given = err_from_is_err_and c.from_residual.result c.from_residual.ensures.1 in
     rw (given.1, given.2) stops
