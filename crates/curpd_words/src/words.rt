@@ -103,9 +103,9 @@ fn gather_command<'a>(alloc: Global) -> Result<Command<'a>, AllocError> {
 fn seat<'a>(alloc: Global, matches: &ArgMatches<'a>) -> Result<Seat<'a>, Failed<CurpdWordsError>>
     ensures { IfOk result (λ seat. bad_field seat.header ≡ None) }
 {
-    let name = text(matches, "name")?;
-    let journal = text(matches, "journal")?;
-    let header = text(matches, "header")?;
+    let name = text(matches, "name").map_err(Failed::Because)?;
+    let journal = text(matches, "journal").map_err(Failed::Because)?;
+    let header = text(matches, "header").map_err(Failed::Because)?;
     let node = node_named(name).ok_or(Failed::Because(CurpdWordsError::Name))?;
     match LineReader::new(alloc).parse_header(header.as_bytes()) {
         Ok(header) => Ok(Seat {
@@ -132,10 +132,8 @@ fn node<'a>(
 }
 
 /// The value of an option that the parser requires.
-fn text<'a>(matches: &ArgMatches<'a>, name: &str) -> Result<&'a str, Failed<CurpdWordsError>> {
-    matches
-        .get_str(name)
-        .ok_or(Failed::Because(CurpdWordsError::Name))
+fn text<'a>(matches: &ArgMatches<'a>, name: &str) -> Result<&'a str, CurpdWordsError> {
+    matches.get_str(name).ok_or(CurpdWordsError::Name)
 }
 
 fn gather<'a>(
