@@ -66,9 +66,9 @@ pub(crate) fn request(client: u32, seq: u32, command: Command) -> Request {
     }
 }
 
-pub(crate) fn op(rt: &impl Abort, alloc: Global, request: &Request, acknowledge: u32) -> Entry {
+pub(crate) fn op(rt: &impl Abort, alloc: Global, request: Request, acknowledge: u32) -> Entry {
     Entry::Op {
-        request: must(rt, Shared::of(alloc, request)),
+        request: must(rt, Shared::of(alloc, &request)),
         acknowledge,
     }
 }

@@ -32,7 +32,7 @@ fn try_op(
     rt: &impl Abort,
     alloc: Global,
     log: &mut Log,
-    request: &Request,
+    request: Request,
     (acknowledge, index): (u32, u64),
 ) {
     let found = push(rt, log, op(rt, alloc, request, acknowledge));
@@ -48,39 +48,16 @@ fn three_ops(rt: &impl Abort, alloc: Global) -> Log {
         (request(1, 2, Command::Delete(a)), (2, 1)),
         (request(2, 1, Command::Incr(a)), (0, 2)),
     ] {
-        try_op(rt, alloc, &mut log, &request, row);
+        try_op(rt, alloc, &mut log, request, row);
     }
     log
 }
 
 // A client, the number of its request, and what is known of it.
-type Row = (u32, u32, Known);
+type Row = (u32, u32, Check);
 
-#[derive(Clone, Copy)]
-enum Known {
-    New,
-    Stale(u32),
-    Expired,
-    // An answer, and its index.
-    At(Answer, u64),
-}
-
-fn check_of(known: Known) -> Check {
-    match known {
-        Known::New => Check::New,
-        Known::Stale(first) => Check::Stale { first },
-        Known::Expired => Check::Expired,
-        Known::At(answer, index) => Check::Known { answer, index },
-    }
-}
-
-fn try_check(rt: &impl Abort, log: &Log, id: RequestId, known: Known) {
-    right_at(
-        rt,
-        log.check(&id) == check_of(known),
-        "check",
-        u64::from(id.seq),
-    );
+fn try_check(rt: &impl Abort, log: &Log, id: RequestId, known: Check) {
+    right_at(rt, log.check(&id) == known, "check", u64::from(id.seq));
 }
 
 fn try_checks(rt: &impl Abort, log: &Log, rows: &[Row]) {
@@ -90,11 +67,25 @@ fn try_checks(rt: &impl Abort, log: &Log, rows: &[Row]) {
 }
 
 const DONE: [Row; 5] = [
-    (1, 1, Known::Stale(2)),
-    (1, 2, Known::At(Answer::Removed(true), 1)),
-    (1, 3, Known::New),
-    (2, 1, Known::At(Answer::Number(1), 2)),
-    (3, 1, Known::New),
+    (1, 1, Check::Stale { first: 2 }),
+    (
+        1,
+        2,
+        Check::Known {
+            answer: Answer::Removed(true),
+            index: 1,
+        },
+    ),
+    (1, 3, Check::New),
+    (
+        2,
+        1,
+        Check::Known {
+            answer: Answer::Number(1),
+            index: 2,
+        },
+    ),
+    (3, 1, Check::New),
 ];
 
 fn number(number: u64) -> Value {
@@ -197,14 +188,14 @@ fn two_ops(rt: &impl Abort, alloc: Global) -> Log {
         rt,
         alloc,
         &mut log,
-        &request(1, 1, put(rt, b"a", b"1")),
+        request(1, 1, put(rt, b"a", b"1")),
         (0, 0),
     );
     try_op(
         rt,
         alloc,
         &mut log,
-        &request(1, 2, put(rt, b"b", b"2")),
+        request(1, 2, put(rt, b"b", b"2")),
         (0, 1),
     );
     log
@@ -236,10 +227,16 @@ fn a_given(rt: &impl Abort, alloc: Global) -> Log {
     log
 }
 
-// Where the last Take stands, with its migration.
-fn last_take(log: &Log) -> Option<(u32, u64)> {
+// Where the last Take stands, with its migration, and how many pairs and records its package has.
+fn last_take(log: &Log) -> Option<(u32, u64, usize, usize)> {
     let taken = log.package()?;
-    Some((taken.migration, taken.index))
+    let part = taken.package;
+    Some((
+        taken.migration,
+        taken.index,
+        part.pairs.len(),
+        part.table.records.len(),
+    ))
 }
 
 fn try_spans(rt: &impl Abort, log: &Log, spans: &[(u64, u64)]) {
@@ -257,7 +254,7 @@ fn try_left(rt: &impl Abort, log: &Log) {
     try_key(rt, log, b"a", None);
     try_key(rt, log, b"b", Some(value(rt, b"2")));
     try_spans(rt, log, &[(0, A - 1), (A + 1, u64::MAX)]);
-    right(rt, last_take(log) == Some((7, 2)), "left");
+    right(rt, last_take(log) == Some((7, 2, 1, 2)), "left");
 }
 
 #[test]
@@ -310,9 +307,16 @@ fn try_package(rt: &impl Abort, part: &Package) {
 
 // The records come with the range, and stand at the Give.
 const DONE_ELSEWHERE: [Row; 3] = [
-    (1, 2, Known::At(Answer::Done, 1)),
-    (1, 3, Known::New),
-    (9, 1, Known::Expired),
+    (
+        1,
+        2,
+        Check::Known {
+            answer: Answer::Done,
+            index: 1,
+        },
+    ),
+    (1, 3, Check::New),
+    (9, 1, Check::Expired),
 ];
 
 #[test]
@@ -328,9 +332,16 @@ fn what_was_done_elsewhere_is_known(rt: HostRuntime) {
 }
 
 const ONE_GONE: [Row; 3] = [
-    (1, 2, Known::Expired),
-    (1, 9, Known::Expired),
-    (2, 1, Known::At(Answer::Number(1), 2)),
+    (1, 2, Check::Expired),
+    (1, 9, Check::Expired),
+    (
+        2,
+        1,
+        Check::Known {
+            answer: Answer::Number(1),
+            index: 2,
+        },
+    ),
 ];
 
 #[test]
@@ -387,7 +398,7 @@ fn nth_op(rt: &impl Abort, alloc: Global, seq: u32) -> Entry {
     let [a, b, c, d] = seq.to_be_bytes();
     let put = put(rt, &[a, b, c, d, 0, 0, 0, 0], &[7; 128]);
     let client = (seq / 5_000).wrapping_add(1);
-    op(rt, alloc, &request(client, seq, put), 0)
+    op(rt, alloc, request(client, seq, put), 0)
 }
 
 fn many_ops(rt: &impl Abort, alloc: Global) -> Log {
@@ -396,12 +407,6 @@ fn many_ops(rt: &impl Abort, alloc: Global) -> Log {
         push(rt, &mut log, nth_op(rt, alloc, seq));
     }
     log
-}
-
-// How many pairs and records the last package has.
-fn taken_sizes(log: &Log) -> Option<(usize, usize)> {
-    let part = log.package()?.package;
-    Some((part.pairs.len(), part.table.records.len()))
 }
 
 // A log to which the last package comes.
@@ -420,7 +425,11 @@ const LAST: RequestId = RequestId {
 };
 
 fn is_known_at(log: &Log, index: u64) -> bool {
-    log.check(&LAST) == check_of(Known::At(Answer::Done, index))
+    log.check(&LAST)
+        == Check::Known {
+            answer: Answer::Done,
+            index,
+        }
 }
 
 #[test]
@@ -435,7 +444,8 @@ fn holds_thirty_thousand_entries(rt: HostRuntime) {
 
 fn try_many(rt: &impl Abort, alloc: Global, log: &Log) {
     try_len(rt, log, 30_000);
-    right(rt, taken_sizes(log) == Some((29_998, 29_998)), "many (1)");
+    let whole = Some((1, 29_998, 29_998, 29_998));
+    right(rt, last_take(log) == whole, "many (1)");
     right(rt, is_known_at(log, 29_997), "many (2)");
     let entries = must(rt, log.suffix(0));
     right(rt, entries.len() == 30_000, "many (3)");
@@ -451,7 +461,7 @@ fn try_given(rt: &impl Abort, other: &Log) {
 }
 
 fn get_of(rt: &impl Abort, alloc: Global, seq: u32) -> Entry {
-    op(rt, alloc, &request(1, seq, Command::Get(key(rt, b"a"))), 0)
+    op(rt, alloc, request(1, seq, Command::Get(key(rt, b"a"))), 0)
 }
 
 // Whether a log of those hashes has two Gets of "a", of these ids.

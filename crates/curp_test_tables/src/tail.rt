@@ -1,32 +1,45 @@
 //! The entries of a log that aren't synced, and which hashes they touch.
 
-use crate::build::{A, held, key, must, op, request, right, right_at, value};
-use curp_base::AscendingPairs;
-use curp_cmd::{Command, Entry, Package, TablePart};
+use crate::build::{id, must, right, right_at};
+use curp_base::{AscendingPairs, Shared};
+use curp_cmd::{Command, Entry, Key, Package, Request, TablePart, Value};
 use curp_tail::Tail;
 use std::alloc::Global;
 use std::process::Abort;
 
-// The hashes of "b" and "c", as the authors of FNV published them.
+// The hashes of "a", "b" and "c", as the authors of FNV published them.
+const A: u64 = 0xaf63dc4c8601ec8c;
+
 const B: u64 = 0xaf63df4c8601f1a5;
 
 const C: u64 = 0xaf63de4c8601eff2;
 
+fn key(rt: &impl Abort, bytes: &[u8]) -> Key {
+    must(rt, Key::new(bytes))
+}
+
+fn op(rt: &impl Abort, alloc: Global, command: Command) -> Entry {
+    let request = Request {
+        id: id(1, 1),
+        first: 1,
+        command,
+    };
+    Entry::Op {
+        request: must(rt, Shared::of(alloc, &request)),
+        acknowledge: 1,
+    }
+}
+
 fn increment(rt: &impl Abort, alloc: Global) -> Entry {
-    let command = Command::Incr(key(rt, b"a"));
-    op(rt, alloc, &request(1, 1, command), 1)
+    op(rt, alloc, Command::Incr(key(rt, b"a")))
 }
 
 fn put_both(rt: &impl Abort, first: &[u8], second: &[u8]) -> Command {
-    let one = value(rt, b"1");
+    let one = must(rt, Value::new(b"1"));
     must(
         rt,
         Command::multi(&[(key(rt, first), one), (key(rt, second), one)]),
     )
-}
-
-fn multi(rt: &impl Abort, alloc: Global) -> Entry {
-    op(rt, alloc, &request(1, 1, put_both(rt, b"b", b"c")), 1)
 }
 
 fn empty(alloc: Global) -> Package {
@@ -41,14 +54,14 @@ fn empty(alloc: Global) -> Package {
 fn take(rt: &impl Abort, alloc: Global) -> Entry {
     Entry::Take {
         migration: 1,
-        package: held(rt, alloc, empty(alloc)),
+        package: must(rt, Shared::new(alloc, empty(alloc))),
     }
 }
 
 fn four_entries(rt: &impl Abort, alloc: Global) -> Vec<Entry> {
     let mut entries = Vec::new(alloc);
     must(rt, entries.push(increment(rt, alloc)));
-    must(rt, entries.push(multi(rt, alloc)));
+    must(rt, entries.push(op(rt, alloc, put_both(rt, b"b", b"c"))));
     must(rt, entries.push(take(rt, alloc)));
     must(rt, entries.push(Entry::Expire { client: 1 }));
     entries

@@ -41,43 +41,11 @@ fn pack(rt: &impl Abort, table: Table) -> TablePart {
     part
 }
 
-// A client, the number of its request, and what is known of it. The answer to a request that was noted is the number of
-// its place.
-type Row = (u32, u32, Known);
+// A client, the number of its request, and what is known of it.
+type Row = (u32, u32, Check);
 
-#[derive(Clone, Copy)]
-enum Known {
-    New,
-    Stale(u32),
-    Expired,
-    // The answer, and the index.
-    Number(u64, u64),
-    Done(u64),
-}
-
-fn check_of(known: Known) -> Check {
-    match known {
-        Known::New => Check::New,
-        Known::Stale(first) => Check::Stale { first },
-        Known::Expired => Check::Expired,
-        Known::Number(number, index) => Check::Known {
-            answer: Answer::Number(number),
-            index,
-        },
-        Known::Done(index) => Check::Known {
-            answer: Answer::Done,
-            index,
-        },
-    }
-}
-
-fn try_check(rt: &impl Abort, table: &Table, id: RequestId, known: Known) {
-    right_at(
-        rt,
-        table.check(&id) == check_of(known),
-        "check",
-        u64::from(id.seq),
-    );
+fn try_check(rt: &impl Abort, table: &Table, id: RequestId, known: Check) {
+    right_at(rt, table.check(&id) == known, "check", u64::from(id.seq));
 }
 
 fn try_checks(rt: &impl Abort, table: &Table, rows: &[Row]) {
@@ -101,16 +69,37 @@ fn three_clients(rt: &impl Abort, alloc: Global) -> Table {
 }
 
 const OF_THREE: [Row; 10] = [
-    (1, 1, Known::Stale(3)),
-    (1, 2, Known::Stale(3)),
-    (1, 3, Known::Number(2, 2)),
-    (1, 4, Known::New),
-    (2, 1, Known::Number(1, 1)),
-    (2, 7, Known::Number(5, 5)),
-    (2, 8, Known::New),
-    (3, 1, Known::Expired),
-    (3, 2, Known::Expired),
-    (4, 1, Known::New),
+    (1, 1, Check::Stale { first: 3 }),
+    (1, 2, Check::Stale { first: 3 }),
+    (
+        1,
+        3,
+        Check::Known {
+            answer: Answer::Number(2),
+            index: 2,
+        },
+    ),
+    (1, 4, Check::New),
+    (
+        2,
+        1,
+        Check::Known {
+            answer: Answer::Number(1),
+            index: 1,
+        },
+    ),
+    (
+        2,
+        7,
+        Check::Known {
+            answer: Answer::Number(5),
+            index: 5,
+        },
+    ),
+    (2, 8, Check::New),
+    (3, 1, Check::Expired),
+    (3, 2, Check::Expired),
+    (4, 1, Check::New),
 ];
 
 #[test]
@@ -172,13 +161,34 @@ fn four_clients(rt: &impl Abort, alloc: Global) -> Table {
 
 // What was there before a package came stays, and what is of no use in the whole is dropped.
 const OF_BOTH: [Row; 7] = [
-    (1, 2, Known::Stale(3)),
-    (1, 3, Known::Number(2, 95)),
-    (2, 1, Known::Stale(2)),
-    (2, 7, Known::Number(91, 91)),
-    (3, 5, Known::Expired),
-    (4, 4, Known::Number(90, 90)),
-    (9, 1, Known::Expired),
+    (1, 2, Check::Stale { first: 3 }),
+    (
+        1,
+        3,
+        Check::Known {
+            answer: Answer::Number(2),
+            index: 95,
+        },
+    ),
+    (2, 1, Check::Stale { first: 2 }),
+    (
+        2,
+        7,
+        Check::Known {
+            answer: Answer::Number(91),
+            index: 91,
+        },
+    ),
+    (3, 5, Check::Expired),
+    (
+        4,
+        4,
+        Check::Known {
+            answer: Answer::Number(90),
+            index: 90,
+        },
+    ),
+    (9, 1, Check::Expired),
 ];
 
 #[test]
@@ -234,9 +244,16 @@ fn try_sizes(rt: &impl Abort, part: &TablePart) {
 fn try_clients(rt: &impl Abort, table: &Table) {
     for client in 0..64 {
         let rows = [
-            (client, 100, Known::Stale(101)),
-            (client, 101, Known::Done(7)),
-            (client, 501, Known::New),
+            (client, 100, Check::Stale { first: 101 }),
+            (
+                client,
+                101,
+                Check::Known {
+                    answer: Answer::Done,
+                    index: 7,
+                },
+            ),
+            (client, 501, Check::New),
         ];
         try_checks(rt, table, &rows);
     }
