@@ -1,11 +1,11 @@
 // Inputs that come alone: orders for a manager whose disk stops, and messages for a backup.
-use crate::build::{begin, fence, fence_by_name, must_hold, opened};
-use crate::manager::{manager, reopened};
+use crate::build::{begun_disk, fence, must_hold, opened};
+use crate::manager::{manager, recover, reopened};
 use curp_base::Failed;
 use curp_disk::StopDisk;
 use curp_durable::{Durable, DurableError};
-use curp_journal::Arrived;
-use curp_msg::{Core, Done, Local};
+use curp_journal::{Arrived, Named};
+use curp_msg::{Done, Local};
 use curp_nodes::{BackupNode, ManagerNode};
 use std::alloc::Global;
 use std::process::Abort;
@@ -22,8 +22,8 @@ fn is_done(done: Result<Done, Failed<DurableError>>, refused: u8, sent: usize) -
     }
 }
 
-fn does<N: Core + Drop>(
-    durable: &mut Durable<N, StopDisk>,
+fn does(
+    durable: &mut Durable<ManagerNode, StopDisk>,
     order: Local,
     refused: u8,
     sent: usize,
@@ -31,21 +31,17 @@ fn does<N: Core + Drop>(
     is_done(durable.on_order(order, 0), refused, sent)
 }
 
-fn takes<N: Core + Drop>(
-    durable: &mut Durable<N, StopDisk>,
-    arrived: Arrived,
+fn takes(
+    durable: &mut Durable<BackupNode, StopDisk>,
+    named: Named,
     refused: u8,
     sent: usize,
 ) -> bool {
-    is_done(durable.on(arrived), refused, sent)
+    is_done(durable.on(Arrived::Message(named)), refused, sent)
 }
 
 /// Whether an order isn't done, for this reason.
-fn fails<N: Core + Drop>(
-    durable: &mut Durable<N, StopDisk>,
-    order: Local,
-    why: DurableError,
-) -> bool {
+fn fails(durable: &mut Durable<ManagerNode, StopDisk>, order: Local, why: DurableError) -> bool {
     match durable.on_order(order, 0) {
         Ok(done) => {
             drop(done);
@@ -61,9 +57,7 @@ fn arm(durable: &mut Durable<ManagerNode, StopDisk>, call: u64) {
 
 /// The manager with an empty journal.
 fn begun(rt: &impl Abort, alloc: Global) -> Durable<ManagerNode, StopDisk> {
-    let mut disk = StopDisk::new(alloc);
-    begin(rt, alloc, &mut disk);
-    reopened(rt, alloc, disk)
+    reopened(rt, alloc, begun_disk(rt, alloc))
 }
 
 /// A manager by whose journal so many clients are gone.
@@ -133,23 +127,21 @@ fn is_at(manager: &ManagerNode, next_master: u32) -> bool {
 #[test]
 fn the_manager_is_at_hand(rt: HostRuntime) {
     let mut durable = begun(&rt, rt.alloc());
-    let recover = Local::Recover {
-        part: 1,
-        backup: 1,
-        witness: 1,
-    };
-    must_hold(&rt, "a recovery", does(&mut durable, recover, 0, 3));
+    must_hold(&rt, "a recovery", does(&mut durable, recover(), 0, 3));
     must_hold(&rt, "the manager", is_at(durable.node(), 3));
     drop(durable);
+}
+
+#[test]
+fn a_fresh_manager_has_given_no_number(rt: HostRuntime) {
     let fresh = manager(&rt, rt.alloc());
     must_hold(&rt, "a fresh manager", is_at(&fresh, 2));
     drop(fresh);
 }
 
 fn backup(rt: &impl Abort, alloc: Global) -> Durable<BackupNode, StopDisk> {
-    let mut disk = StopDisk::new(alloc);
-    begin(rt, alloc, &mut disk);
-    opened(alloc, disk, BackupNode::new(alloc, 1, 1)).expect(rt, "no journal")
+    let node = BackupNode::new(alloc, 1, 1);
+    opened(rt, alloc, begun_disk(rt, alloc), node)
 }
 
 /// A fence is answered by a log. No stamp is left behind the highest.
@@ -165,7 +157,7 @@ fn has_taken(durable: &Durable<BackupNode, StopDisk>, count: u64, stamp: u64) ->
 }
 
 fn try_messages(rt: &impl Abort, durable: &mut Durable<BackupNode, StopDisk>) {
-    let done = durable.on_message(fence_by_name(2, 7));
+    let done = durable.on_message(fence(2, 7));
     must_hold(rt, "the first", is_done(done, 0, 1));
     must_hold(rt, "one was taken", has_taken(durable, 1, 8));
     let is_refused = takes(durable, fence(3, u64::MAX), 255, 0);

@@ -1,7 +1,7 @@
 //! What the tests build alike, by calls of which they know nothing. A test ends where something isn't built.
-use curp_base::{Failed, NoMemory};
+use curp_base::Failed;
 use curp_cmd::NodeId;
-use curp_disk::Disk;
+use curp_disk::{Disk, StopDisk};
 use curp_durable::{Answered, Durable, DurableError, OpenError, OpenFailed, SIZE_LIMIT, format};
 use curp_journal::{Arrived, Named};
 use curp_msg::{Body, Core, Local, Message};
@@ -18,9 +18,11 @@ pub(crate) fn must_hold(rt: &impl Abort, what: &str, holds: bool) {
     }
 }
 
-/// Writes an empty journal.
-pub(crate) fn begin<D: Disk>(rt: &impl Abort, alloc: Global, disk: &mut D) {
-    assert!(rt; format(alloc, disk, TITLE).is_ok());
+/// A disk with an empty journal.
+pub(crate) fn begun_disk(rt: &impl Abort, alloc: Global) -> StopDisk {
+    let mut disk = StopDisk::new(alloc);
+    must_hold(rt, "a journal", format(alloc, &mut disk, TITLE).is_ok());
+    disk
 }
 
 fn why<D: Disk + Drop>(failed: OpenFailed<D>) -> Failed<OpenError> {
@@ -31,11 +33,12 @@ fn why<D: Disk + Drop>(failed: OpenFailed<D>) -> Failed<OpenError> {
 
 /// The journal of a disk, with its node.
 pub(crate) fn opened<N: Core + Drop, D: Disk + Drop>(
+    rt: &impl Abort,
     alloc: Global,
     disk: D,
     node: N,
-) -> Result<Durable<N, D>, Failed<OpenError>> {
-    opened_as(alloc, disk, TITLE, node, SIZE_LIMIT)
+) -> Durable<N, D> {
+    opened_as(alloc, disk, TITLE, node, SIZE_LIMIT).expect(rt, "no journal")
 }
 
 /// The journal of this title, with a limit to its size.
@@ -52,52 +55,20 @@ pub(crate) fn opened_as<N: Core + Drop, D: Disk + Drop>(
     }
 }
 
-/// The numbers that are answered to a batch: those of the items, and 1000 more than those of refusals.
-pub(crate) fn numbers<N: Core + Drop, D: Disk>(
-    alloc: Global,
-    durable: &mut Durable<N, D>,
-    inputs: Vec<Arrived>,
-) -> Result<Vec<u64>, Failed<DurableError>> {
-    let answers = durable.on_all(inputs)?;
-    let numbers = numbers_of(alloc, &answers);
-    drop(answers);
-    Ok(numbers?)
-}
-
-fn numbers_of(alloc: Global, answers: &[Answered]) -> Result<Vec<u64>, NoMemory> {
-    let mut numbers = Vec::new(alloc);
-    for answered in answers {
-        numbers.push(number_of(answered))?;
-    }
-    Ok(numbers)
-}
-
-fn number_of(answered: &Answered) -> u64 {
-    match answered {
-        Answered::Made { step, .. } => *step,
-        Answered::Refused { number } => u64::from(*number).wrapping_add(1000),
-    }
-}
-
-/// How many messages go out by an answer.
-fn sent_by(answered: &Answered) -> usize {
-    match answered {
-        Answered::Made { item, .. } => item.done.sent.len(),
-        Answered::Refused { .. } => 0,
-    }
-}
-
 pub(crate) fn add(rt: &impl Abort, inputs: &mut Vec<Arrived>, input: Arrived) {
-    assert!(rt; inputs.push(input).is_ok());
+    inputs.push(input).expect(rt, "no memory")
 }
 
-/// Gives the node an order: how many inputs it took before, and how many messages go out by it.
+/// How many inputs the node took before an order, and how many messages go out by it.
+pub(crate) type Told = (u64, usize);
+
+/// Gives the node an order.
 pub(crate) fn ordered<N: Core + Drop, D: Disk>(
     rt: &impl Abort,
     alloc: Global,
     durable: &mut Durable<N, D>,
     order: Local,
-) -> Result<(u64, usize), Failed<DurableError>> {
+) -> Result<Told, Failed<DurableError>> {
     let mut inputs = Vec::new(alloc);
     add(rt, &mut inputs, Arrived::Local(order, 0));
     let answers = durable.on_all(inputs)?;
@@ -106,25 +77,11 @@ pub(crate) fn ordered<N: Core + Drop, D: Disk>(
     Ok(told)
 }
 
-/// The same of a nudge.
-pub(crate) fn nudged<N: Core + Drop, D: Disk>(
-    rt: &impl Abort,
-    alloc: Global,
-    durable: &mut Durable<N, D>,
-) -> (u64, usize) {
-    ordered(rt, alloc, durable, Local::Nudge).expect(rt, "no answer")
-}
-
-/// Whether a nudge tells that.
-pub(crate) fn nudge_tells<N: Core + Drop, D: Disk>(
-    rt: &impl Abort,
-    alloc: Global,
-    durable: &mut Durable<N, D>,
-    count: u64,
-    sent: usize,
-) -> bool {
-    let (taken, out) = nudged(rt, alloc, durable);
-    taken == count && out == sent
+fn told_by(answers: &[Answered]) -> Told {
+    match answers {
+        [Answered::Made { step, item }] => (step.saturating_sub(1), item.done.sent.len()),
+        _ => (u64::MAX, 0),
+    }
 }
 
 /// Whether an order tells that.
@@ -133,10 +90,10 @@ pub(crate) fn order_tells<N: Core + Drop, D: Disk>(
     alloc: Global,
     durable: &mut Durable<N, D>,
     order: Local,
-    (count, sent): (u64, usize),
+    told: Told,
 ) -> bool {
     match ordered(rt, alloc, durable, order) {
-        Ok((taken, out)) => taken == count && out == sent,
+        Ok(found) => found == told,
         Err(_) => false,
     }
 }
@@ -155,19 +112,8 @@ pub(crate) fn order_fails<N: Core + Drop, D: Disk>(
     }
 }
 
-fn told_by(answers: &[Answered]) -> (u64, usize) {
-    match answers {
-        [answered] => (number_of(answered).saturating_sub(1), sent_by(answered)),
-        _ => (0, 0),
-    }
-}
-
 /// A fence of that epoch for the first backup, with this stamp.
-pub(crate) fn fence(epoch: u32, stamp: u64) -> Arrived {
-    Arrived::Message(fence_by_name(epoch, stamp))
-}
-
-pub(crate) fn fence_by_name(epoch: u32, stamp: u64) -> Named {
+pub(crate) fn fence(epoch: u32, stamp: u64) -> Named {
     Named {
         from: NodeId::master(1),
         step: 1,
@@ -179,13 +125,4 @@ pub(crate) fn fence_by_name(epoch: u32, stamp: u64) -> Named {
             body: Body::Fence { epoch },
         },
     }
-}
-
-/// So many fences, of the epochs from 1 on.
-pub(crate) fn fences(rt: &impl Abort, alloc: Global, count: u32) -> Vec<Arrived> {
-    let mut inputs = Vec::new(alloc);
-    for epoch in 1..=count {
-        add(rt, &mut inputs, fence(epoch, 1));
-    }
-    inputs
 }

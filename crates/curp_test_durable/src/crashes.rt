@@ -1,11 +1,10 @@
 // Crashes between the calls of the disk, a disk that was refused, and inputs that are.
-use crate::build::{
-    TITLE, add, begin, fence, fences, must_hold, nudge_tells, nudged, numbers, opened, opened_as,
-};
+use crate::build::{TITLE, add, begun_disk, fence, must_hold, opened, opened_as, order_tells};
 use curp_base::Failed;
 use curp_disk::StopDisk;
-use curp_durable::{Durable, DurableError, OpenError, SIZE_LIMIT};
+use curp_durable::{Answered, Durable, DurableError, OpenError, SIZE_LIMIT};
 use curp_journal::Arrived;
+use curp_msg::Local;
 use curp_nodes::BackupNode;
 use std::alloc::Global;
 use std::process::Abort;
@@ -15,16 +14,23 @@ fn backup(alloc: Global) -> BackupNode {
 }
 
 fn reopened(rt: &impl Abort, alloc: Global, disk: StopDisk) -> Durable<BackupNode, StopDisk> {
-    opened(alloc, disk, backup(alloc)).expect(rt, "no journal")
+    opened(rt, alloc, disk, backup(alloc))
 }
 
 /// A disk with the journal of a backup that took three messages.
 fn disk_of_three(rt: &impl Abort, alloc: Global) -> StopDisk {
-    let mut disk = StopDisk::new(alloc);
-    begin(rt, alloc, &mut disk);
-    let mut durable = reopened(rt, alloc, disk);
+    let mut durable = reopened(rt, alloc, begun_disk(rt, alloc));
     must_hold(rt, "three", keeps(rt, alloc, &mut durable, 3));
     durable.into_disk()
+}
+
+/// So many fences, of the epochs from 1 on.
+fn fences(rt: &impl Abort, alloc: Global, count: u32) -> Vec<Arrived> {
+    let mut inputs = Vec::new(alloc);
+    for epoch in 1..=count {
+        add(rt, &mut inputs, Arrived::Message(fence(epoch, 1)));
+    }
+    inputs
 }
 
 /// How many of so many messages are kept, or why none is.
@@ -34,9 +40,9 @@ fn kept(
     durable: &mut Durable<BackupNode, StopDisk>,
     count: u32,
 ) -> Result<usize, Failed<DurableError>> {
-    let numbers = numbers(alloc, durable, fences(rt, alloc, count))?;
-    let count = numbers.len();
-    drop(numbers);
+    let answers = durable.on_all(fences(rt, alloc, count))?;
+    let count = answers.len();
+    drop(answers);
     Ok(count)
 }
 
@@ -85,9 +91,9 @@ fn try_crash(rt: &impl Abort, alloc: Global, call: u64, kept: bool) {
     disk.crash(kept);
     let mut durable = reopened(rt, alloc, disk);
     let wanted = if call == 4 && kept { 8 } else { 3 };
-    let (count, _) = nudged(rt, alloc, &mut durable);
+    let tells = order_tells(rt, alloc, &mut durable, Local::Nudge, (wanted, 0));
     drop(durable);
-    must_hold(rt, "what is kept", count == wanted);
+    must_hold(rt, "what is kept", tells);
 }
 
 #[test]
@@ -101,9 +107,9 @@ fn a_batch_is_kept_once_its_commit_is(rt: HostRuntime) {
 /// Two messages, and between them one that has the highest stamp.
 fn mixed(rt: &impl Abort, alloc: Global) -> Vec<Arrived> {
     let mut inputs = Vec::new(alloc);
-    add(rt, &mut inputs, fence(1, 1));
-    add(rt, &mut inputs, fence(2, u64::MAX));
-    add(rt, &mut inputs, fence(3, 7));
+    for (epoch, stamp) in [(1, 1), (2, u64::MAX), (3, 7)] {
+        add(rt, &mut inputs, Arrived::Message(fence(epoch, stamp)));
+    }
     inputs
 }
 
@@ -114,10 +120,21 @@ fn disk_of_mixed(rt: &impl Abort, alloc: Global) -> StopDisk {
     durable.into_disk()
 }
 
+fn are_mixed(answers: &[Answered]) -> bool {
+    matches!(
+        answers,
+        [
+            Answered::Made { step: 4, .. },
+            Answered::Refused { number: 255, .. },
+            Answered::Made { step: 5, .. },
+        ]
+    )
+}
+
 fn try_mixed(rt: &impl Abort, alloc: Global, durable: &mut Durable<BackupNode, StopDisk>) {
-    let numbers = numbers(alloc, durable, mixed(rt, alloc)).expect(rt, "no answer");
-    let are = numbers.as_slice() == [4, 1255, 5].as_slice();
-    drop(numbers);
+    let answers = durable.on_all(mixed(rt, alloc)).expect(rt, "no answer");
+    let are = are_mixed(&answers);
+    drop(answers);
     must_hold(rt, "the numbers", are);
 }
 
@@ -127,7 +144,7 @@ fn what_is_refused_is_not_kept(rt: HostRuntime) {
     let mut disk = disk_of_mixed(&rt, alloc);
     disk.crash(false);
     let mut durable = reopened(&rt, alloc, disk);
-    let tells = nudge_tells(&rt, alloc, &mut durable, 5, 0);
+    let tells = order_tells(&rt, alloc, &mut durable, Local::Nudge, (5, 0));
     drop(durable);
     must_hold(&rt, "five were kept", tells);
 }

@@ -1,5 +1,4 @@
-//! Tests of the journals of nodes by the public calls: crashes, what is refused, inputs that come alone, and bytes that
-//! are written by hand, cut or changed.
+//! Tests of the journals of nodes by the public calls: crashes, what is refused, and inputs that come alone.
 #![tactic(auto)]
 
 #[cfg(test)]
@@ -9,14 +8,4 @@ mod build;
 #[cfg(test)]
 mod crashes;
 #[cfg(test)]
-mod damage;
-#[cfg(test)]
-mod faults;
-#[cfg(test)]
-mod formatting;
-#[cfg(test)]
-mod heavy;
-#[cfg(test)]
 mod manager;
-#[cfg(test)]
-mod orders;

@@ -1,10 +1,8 @@
 // A manager whose disk stops: what it decided is sent again once its journal is opened.
-use crate::build::{TITLE, add, begin, must_hold, nudge_tells, opened, order_fails, order_tells};
-use crate::damage::disk_of;
-use curp_base::Failed;
+use crate::build::{TITLE, add, begun_disk, must_hold, opened, order_fails, order_tells};
 use curp_changes::Shape;
-use curp_disk::{Disk, MemoryDisk, StopDisk};
-use curp_durable::{Durable, DurableError, OpenError, SIZE_LIMIT};
+use curp_disk::StopDisk;
+use curp_durable::{Durable, DurableError, SIZE_LIMIT};
 use curp_journal::Arrived;
 use curp_law_lives::{batch_happens, crash_happens, lives_are_one_run, opening_happens};
 use curp_msg::Local;
@@ -26,19 +24,18 @@ pub(crate) fn reopened(
     alloc: Global,
     disk: StopDisk,
 ) -> Durable<ManagerNode, StopDisk> {
-    opened(alloc, disk, manager(rt, alloc)).expect(rt, "no journal")
+    opened(rt, alloc, disk, manager(rt, alloc))
 }
 
 /// The manager with an empty journal, of which the disk stops at that call.
 fn begun(rt: &impl Abort, alloc: Global, call: u64) -> Durable<ManagerNode, StopDisk> {
-    let mut disk = StopDisk::new(alloc);
-    begin(rt, alloc, &mut disk);
+    let mut disk = begun_disk(rt, alloc);
     // The sync of the opening is a call too.
     disk.arm(call.wrapping_add(1));
     reopened(rt, alloc, disk)
 }
 
-fn recover() -> Local {
+pub(crate) fn recover() -> Local {
     Local::Recover {
         part: 1,
         backup: 1,
@@ -62,7 +59,7 @@ fn try_crash(rt: &impl Abort, alloc: Global, kept: bool, count: u64, sent: usize
     let mut disk = stopped(rt, alloc);
     disk.crash(kept);
     let mut durable = reopened(rt, alloc, disk);
-    let tells = nudge_tells(rt, alloc, &mut durable, count, sent);
+    let tells = order_tells(rt, alloc, &mut durable, Local::Nudge, (count, sent));
     drop(durable);
     must_hold(rt, "behind a crash", tells);
 }
@@ -86,44 +83,27 @@ fn a_manager_whose_disk_stops_is_spent(rt: HostRuntime) {
     drop(durable);
 }
 
-fn error_of(rt: &impl Abort, alloc: Global, disk: MemoryDisk) -> Option<Failed<OpenError>> {
-    match opened(alloc, disk, manager(rt, alloc)) {
-        Ok(durable) => {
-            drop(durable);
-            None
-        }
-        Err(why) => Some(why),
-    }
-}
-
-/// An empty disk; and an empty journal whose commit byte was opened with nothing behind it.
-#[test]
-fn what_is_no_journal_is_told(rt: HostRuntime) {
-    let alloc = rt.alloc();
-    let disk = MemoryDisk::new(alloc, &[]).expect(&rt, "no memory");
-    let error = error_of(&rt, alloc, disk);
-    let empty = Some(Failed::Because(OpenError::NotFormatted));
-    must_hold(&rt, "empty", error == empty);
-    let disk = disk_of(&rt, alloc, b"node\x01");
-    let error = error_of(&rt, alloc, disk);
-    let damaged = Some(Failed::Because(OpenError::Damaged { place: 4 }));
-    must_hold(&rt, "damaged", error == damaged);
-}
-
 /// The calls by which a node's lives are spoken of do what those of its journal do.
 #[test]
 fn a_manager_lives_by_the_law(rt: HostRuntime) {
     let alloc = rt.alloc();
-    let mut disk = StopDisk::new(alloc);
-    begin(&rt, alloc, &mut disk);
-    let opened = opening_happens(alloc, disk, TITLE, manager(&rt, alloc), SIZE_LIMIT);
-    let mut durable = opened.ok().expect(&rt, "no journal");
-    let mut inputs = Vec::new(alloc);
-    add(&rt, &mut inputs, Arrived::Local(Local::Expire(1), 0));
-    assert!(rt; batch_happens(&mut durable, inputs).is_ok());
+    let mut durable = by_law(&rt, alloc);
+    expire_by_law(&rt, alloc, &mut durable);
     crash_happens(&durable);
     lives_are_one_run::<ManagerNode>();
-    let tells = nudge_tells(&rt, alloc, &mut durable, 1, 3);
+    let tells = order_tells(&rt, alloc, &mut durable, Local::Nudge, (1, 3));
     drop(durable);
     must_hold(&rt, "its nudge", tells);
+}
+
+fn by_law(rt: &impl Abort, alloc: Global) -> Durable<ManagerNode, StopDisk> {
+    let disk = begun_disk(rt, alloc);
+    let opened = opening_happens(alloc, disk, TITLE, manager(rt, alloc), SIZE_LIMIT);
+    opened.ok().expect(rt, "no journal")
+}
+
+fn expire_by_law(rt: &impl Abort, alloc: Global, durable: &mut Durable<ManagerNode, StopDisk>) {
+    let mut inputs = Vec::new(alloc);
+    add(rt, &mut inputs, Arrived::Local(Local::Expire(1), 0));
+    must_hold(rt, "an expiry", batch_happens(durable, inputs).is_ok());
 }

@@ -1,11 +1,8 @@
-//! Tests of journals of nodes and of what they stand on, by the public calls: a disk over a file, the title of a node's
-//! journal, a node's journal, comparing messages and merging journals.
+//! Tests of journals of nodes by the public calls: a node's journal, its items, and merging journals.
 #![tactic(auto)]
 
 #[cfg(test)]
 mod asker;
-#[cfg(test)]
-mod files;
 #[cfg(test)]
 mod journal;
 #[cfg(test)]
@@ -14,7 +11,3 @@ mod kept;
 mod lines;
 #[cfg(test)]
 mod merge;
-#[cfg(test)]
-mod same;
-#[cfg(test)]
-mod titles;

@@ -1,13 +1,15 @@
 // Journals by their bytes, which were written by hand: the checksums by another program.
-use crate::build::{add, begin, must_hold, nudged, numbers, opened};
-use crate::manager::manager;
+use crate::build::{
+    add, answered, backup, begin, disk_failing, disk_of, has_bytes, must_hold, opened,
+};
 use curp_base::{Failed, Items, Shared};
+use curp_changes::Shape;
 use curp_cmd::{Command, Key, NodeId, Request, RequestId};
-use curp_disk::{Did, Disk, MemoryDisk};
-use curp_durable::OpenError;
+use curp_disk::MemoryDisk;
+use curp_durable::{Answered, Durable, OpenError};
 use curp_journal::{Arrived, Named};
 use curp_msg::{Body, Config, Core, Local, Message, Protocol, Record};
-use curp_nodes::{BackupNode, ClientNode, MasterNode, WitnessNode};
+use curp_nodes::{BackupNode, ClientNode, ManagerNode, MasterNode, WitnessNode};
 use std::alloc::Global;
 use std::process::Abort;
 
@@ -32,33 +34,19 @@ pub(crate) static JOURNAL: [u8; 191] = [
     0,
 ];
 
-fn in_memory(rt: &impl Abort, alloc: Global) -> MemoryDisk {
-    MemoryDisk::new(alloc, &[]).expect(rt, "no memory")
-}
-
 // ---- what is written
 
-fn first(rt: &impl Abort, alloc: Global) -> Vec<Arrived> {
+/// A batch of one input or two.
+fn batch(rt: &impl Abort, alloc: Global, first: Arrived, second: Option<Arrived>) -> Vec<Arrived> {
     let mut batch = Vec::new(alloc);
-    add(rt, &mut batch, Arrived::Local(Local::Expire(1), 0));
+    add(rt, &mut batch, first);
+    if let Some(input) = second {
+        add(rt, &mut batch, input);
+    }
     batch
 }
 
-fn second(rt: &impl Abort, alloc: Global) -> Vec<Arrived> {
-    let mut batch = Vec::new(alloc);
-    add(rt, &mut batch, fence());
-    add(rt, &mut batch, record(rt, alloc));
-    batch
-}
-
-fn third(rt: &impl Abort, alloc: Global) -> Vec<Arrived> {
-    let mut batch = Vec::new(alloc);
-    add(rt, &mut batch, Arrived::Local(Local::Fetch, 0));
-    add(rt, &mut batch, Arrived::Local(Local::Nudge, 9));
-    batch
-}
-
-fn fence() -> Arrived {
+pub(crate) fn fence() -> Arrived {
     Arrived::Message(Named {
         from: NodeId::master(2),
         step: 1,
@@ -93,33 +81,29 @@ fn record(rt: &impl Abort, alloc: Global) -> Arrived {
     })
 }
 
-fn is_read(disk: &mut MemoryDisk, buf: &mut [u8], count: usize) -> bool {
-    disk.read(0, buf) == Did::Done(count)
-}
-
-/// Whether the disk has just these bytes.
-pub(crate) fn has_bytes(mut disk: MemoryDisk, bytes: &[u8]) -> bool {
-    let mut buf = [0; 200];
-    let is_read = is_read(&mut disk, &mut buf, bytes.len());
-    drop(disk);
-    is_read && buf.starts_with(bytes)
+fn keep(rt: &impl Abort, durable: &mut Durable<BackupNode, MemoryDisk>, batch: Vec<Arrived>) {
+    must_hold(rt, "a batch", answered(durable, batch).is_ok());
 }
 
 /// The disk of a journal of the three batches.
 pub(crate) fn written(rt: &impl Abort, alloc: Global) -> MemoryDisk {
-    let mut disk = in_memory(rt, alloc);
-    begin(rt, alloc, &mut disk);
+    let mut disk = disk_failing(rt, alloc, &[]);
+    must_hold(rt, "an empty journal", begin(alloc, &mut disk) == None);
     let mut durable = opened(alloc, disk, backup(alloc)).expect(rt, "no journal");
-    for batch in [first(rt, alloc), second(rt, alloc), third(rt, alloc)] {
-        assert!(rt; numbers(alloc, &mut durable, batch).is_ok());
-    }
+    let expire = Arrived::Local(Local::Expire(1), 0);
+    keep(rt, &mut durable, batch(rt, alloc, expire, None));
+    let record = record(rt, alloc);
+    keep(rt, &mut durable, batch(rt, alloc, fence(), Some(record)));
+    let fetch = Arrived::Local(Local::Fetch, 0);
+    let nudge = Arrived::Local(Local::Nudge, 9);
+    keep(rt, &mut durable, batch(rt, alloc, fetch, Some(nudge)));
     durable.into_disk()
 }
 
 #[test]
 fn a_journal_is_written_so(rt: HostRuntime) {
     let disk = written(&rt, rt.alloc());
-    assert!(rt; has_bytes(disk, &JOURNAL));
+    must_hold(&rt, "its bytes", has_bytes(disk, &JOURNAL));
 }
 
 // ---- nodes of each kind
@@ -132,8 +116,13 @@ fn client(alloc: Global) -> ClientNode {
     ClientNode::new(alloc, 1, true, Protocol::One, config)
 }
 
-fn backup(alloc: Global) -> BackupNode {
-    BackupNode::new(alloc, 1, 1)
+fn manager(rt: &impl Abort, alloc: Global) -> ManagerNode {
+    let shape = Shape {
+        f: 1,
+        parts: 1,
+        clients: 64,
+    };
+    ManagerNode::new(alloc, &shape).expect(rt, "no memory")
 }
 
 fn witness(rt: &impl Abort, alloc: Global) -> WitnessNode {
@@ -144,11 +133,27 @@ fn witness(rt: &impl Abort, alloc: Global) -> WitnessNode {
 
 // ---- what is read
 
-/// A disk of these bytes.
-pub(crate) fn disk_of(rt: &impl Abort, alloc: Global, bytes: &[u8]) -> MemoryDisk {
-    let mut disk = in_memory(rt, alloc);
-    assert!(rt; disk.write_at(0, bytes) == Did::Done(bytes.len()));
-    disk
+/// How many inputs a node took, and how many messages go out.
+type Told = (u64, usize);
+
+fn told_by(answers: &[Answered]) -> Told {
+    match answers {
+        [Answered::Made { step, item }] => (step.saturating_sub(1), item.done.sent.len()),
+        _ => (u64::MAX, 0),
+    }
+}
+
+/// How many inputs the node took before a nudge, and how many messages go out by it.
+fn nudged<N: Core + Drop>(
+    rt: &impl Abort,
+    alloc: Global,
+    durable: &mut Durable<N, MemoryDisk>,
+) -> Told {
+    let nudge = batch(rt, alloc, Arrived::Local(Local::Nudge, 0), None);
+    let answers = durable.on_all(nudge).expect(rt, "no answer");
+    let told = told_by(&answers);
+    drop(answers);
+    told
 }
 
 /// How many inputs the node took by these bytes, and how many messages it then sends on a nudge.
@@ -157,7 +162,7 @@ fn took<N: Core + Drop>(
     alloc: Global,
     bytes: &[u8],
     node: N,
-) -> Result<(u64, usize), Failed<OpenError>> {
+) -> Result<Told, Failed<OpenError>> {
     let mut durable = opened(alloc, disk_of(rt, alloc, bytes), node)?;
     let told = nudged(rt, alloc, &mut durable);
     drop(durable);
@@ -165,7 +170,7 @@ fn took<N: Core + Drop>(
 }
 
 fn is_told(
-    told: Result<(u64, usize), Failed<OpenError>>,
+    told: Result<Told, Failed<OpenError>>,
     wanted: Result<u64, Failed<OpenError>>,
     sent: usize,
 ) -> bool {
@@ -178,7 +183,7 @@ fn is_told(
 
 fn try_told(
     rt: &impl Abort,
-    told: Result<(u64, usize), Failed<OpenError>>,
+    told: Result<Told, Failed<OpenError>>,
     wanted: Result<u64, Failed<OpenError>>,
     sent: usize,
 ) {
@@ -261,4 +266,28 @@ fn each_byte_may_be_another(rt: HostRuntime) {
     for bits in [1, 128, 254] {
         try_bits(&rt, rt.alloc(), bits);
     }
+}
+
+fn error_of(rt: &impl Abort, alloc: Global, disk: MemoryDisk) -> Option<Failed<OpenError>> {
+    match opened(alloc, disk, manager(rt, alloc)) {
+        Ok(durable) => {
+            drop(durable);
+            None
+        }
+        Err(why) => Some(why),
+    }
+}
+
+/// An empty disk; and an empty journal whose commit byte was opened with nothing behind it.
+#[test]
+fn what_is_no_journal_is_told(rt: HostRuntime) {
+    let alloc = rt.alloc();
+    let disk = disk_failing(&rt, alloc, &[]);
+    let error = error_of(&rt, alloc, disk);
+    let empty = Some(Failed::Because(OpenError::NotFormatted));
+    must_hold(&rt, "empty", error == empty);
+    let disk = disk_of(&rt, alloc, b"node\x01");
+    let error = error_of(&rt, alloc, disk);
+    let damaged = Some(Failed::Because(OpenError::Damaged { place: 4 }));
+    must_hold(&rt, "damaged", error == damaged);
 }

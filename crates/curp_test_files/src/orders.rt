@@ -1,5 +1,5 @@
 // Orders as bytes, which were written by hand: the checksum by another program.
-use crate::build::{add, must_hold};
+use crate::build::{must, must_hold};
 use curp_base::Shared;
 use curp_batches::{batch_in, write_arrival};
 use curp_cmd::{Command, Keeper, Key, Value};
@@ -56,19 +56,23 @@ fn put(rt: &impl Abort, alloc: Global) -> Local {
     Local::Invoke(command.ok().expect(rt, "no memory"))
 }
 
+fn add(rt: &impl Abort, orders: &mut Vec<Arrived>, order: Local, stamp: u64) {
+    must(rt, orders.push(Arrived::Local(order, stamp)));
+}
+
 fn all_orders(rt: &impl Abort, alloc: Global) -> Vec<Arrived> {
     let mut orders = Vec::new(alloc);
-    add(rt, &mut orders, Arrived::Local(recover(), 1));
-    add(rt, &mut orders, Arrived::Local(replace(Keeper::Backup), 2));
-    add(rt, &mut orders, Arrived::Local(replace(Keeper::Witness), 3));
-    add(rt, &mut orders, Arrived::Local(migrate(), 4));
-    add(rt, &mut orders, Arrived::Local(Local::Nudge, 5));
-    add(rt, &mut orders, Arrived::Local(Local::Expire(9), 6));
-    add(rt, &mut orders, Arrived::Local(put(rt, alloc), 7));
-    add(rt, &mut orders, Arrived::Local(Local::Retry(10), 8));
-    add(rt, &mut orders, Arrived::Local(Local::Fetch, 9));
-    add(rt, &mut orders, Arrived::Local(Local::Sync, 10));
-    add(rt, &mut orders, Arrived::Local(Local::Collect, 11));
+    add(rt, &mut orders, recover(), 1);
+    add(rt, &mut orders, replace(Keeper::Backup), 2);
+    add(rt, &mut orders, replace(Keeper::Witness), 3);
+    add(rt, &mut orders, migrate(), 4);
+    add(rt, &mut orders, Local::Nudge, 5);
+    add(rt, &mut orders, Local::Expire(9), 6);
+    add(rt, &mut orders, put(rt, alloc), 7);
+    add(rt, &mut orders, Local::Retry(10), 8);
+    add(rt, &mut orders, Local::Fetch, 9);
+    add(rt, &mut orders, Local::Sync, 10);
+    add(rt, &mut orders, Local::Collect, 11);
     orders
 }
 

@@ -1,8 +1,10 @@
 // A disk that fails at one of its calls, at each in turn: at those that read it and ask for its length too.
-use crate::build::{TITLE, fences, must_hold, numbers, opened};
+use crate::build::{add, answered, backup, begin, disk_failing, must_hold, opened};
+use crate::damage::fence;
 use curp_base::Failed;
 use curp_disk::MemoryDisk;
-use curp_durable::{Durable, DurableError, FormatError, OpenError, format};
+use curp_durable::{Durable, DurableError, FormatError, OpenError};
+use curp_journal::Arrived;
 use curp_nodes::BackupNode;
 use std::alloc::Global;
 use std::process::Abort;
@@ -18,10 +20,10 @@ enum Told {
 
 /// An empty journal is written, opened, and given a batch, on a disk that fails at the call of this number.
 fn told_by_format(rt: &impl Abort, alloc: Global, failing: u64) -> Told {
-    let mut disk = MemoryDisk::new(alloc, &[failing]).expect(rt, "no memory");
-    match format(alloc, &mut disk, TITLE) {
-        Ok(()) => told_by_open(rt, alloc, disk),
-        Err(error) => {
+    let mut disk = disk_failing(rt, alloc, &[failing]);
+    match begin(alloc, &mut disk) {
+        None => told_by_open(rt, alloc, disk),
+        Some(error) => {
             let why = Failed::Because(FormatError::DiskFault);
             must_hold(rt, "formatting", error == why);
             drop(disk);
@@ -31,7 +33,7 @@ fn told_by_format(rt: &impl Abort, alloc: Global, failing: u64) -> Told {
 }
 
 fn told_by_open(rt: &impl Abort, alloc: Global, disk: MemoryDisk) -> Told {
-    match opened(alloc, disk, BackupNode::new(alloc, 1, 1)) {
+    match opened(alloc, disk, backup(alloc)) {
         Ok(durable) => told_by_batch(rt, alloc, durable),
         Err(error) => {
             let why = Failed::Because(OpenError::DiskFault);
@@ -41,16 +43,25 @@ fn told_by_open(rt: &impl Abort, alloc: Global, disk: MemoryDisk) -> Told {
     }
 }
 
+/// Three fences.
+fn fences(rt: &impl Abort, alloc: Global) -> Vec<Arrived> {
+    let mut inputs = Vec::new(alloc);
+    for _ in 0..3 {
+        add(rt, &mut inputs, fence());
+    }
+    inputs
+}
+
 fn told_by_batch(
     rt: &impl Abort,
     alloc: Global,
     mut durable: Durable<BackupNode, MemoryDisk>,
 ) -> Told {
-    let kept = numbers(alloc, &mut durable, fences(rt, alloc, 3));
+    let kept = answered(&mut durable, fences(rt, alloc));
     drop(durable);
     match kept {
-        Ok(numbers) => {
-            must_hold(rt, "three numbers", numbers.len() == 3);
+        Ok(count) => {
+            must_hold(rt, "three answers", count == 3);
             Told::ByNone
         }
         Err(error) => {

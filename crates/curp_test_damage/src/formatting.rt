@@ -1,10 +1,9 @@
 // An empty journal is written again where it wasn't at first, and over no journal.
-use crate::build::{TITLE, must_hold, opened};
-use crate::damage::{JOURNAL, disk_of, has_bytes, written};
+use crate::build::{backup, begin, disk_failing, disk_of, has_bytes, must_hold, opened, write};
+use crate::damage::{JOURNAL, written};
 use curp_base::Failed;
-use curp_disk::{Did, Disk, MemoryDisk};
-use curp_durable::{FormatError, format};
-use curp_nodes::BackupNode;
+use curp_disk::MemoryDisk;
+use curp_durable::FormatError;
 use std::alloc::Global;
 use std::process::Abort;
 
@@ -13,13 +12,13 @@ const EMPTY: &[u8] = b"node\x00";
 /// The disk has an empty journal, also after a crash.
 fn must_be_empty(rt: &impl Abort, alloc: Global, mut disk: MemoryDisk) {
     disk.crash(false);
-    let durable = opened(alloc, disk, BackupNode::new(alloc, 1, 1)).expect(rt, "no journal");
+    let durable = opened(alloc, disk, backup(alloc)).expect(rt, "no journal");
     must_hold(rt, "no input", durable.count() == 0);
     must_hold(rt, "these bytes", has_bytes(durable.into_disk(), EMPTY));
 }
 
 fn must_format(rt: &impl Abort, alloc: Global, mut disk: MemoryDisk) {
-    must_hold(rt, "written", format(alloc, &mut disk, TITLE).is_ok());
+    must_hold(rt, "written", begin(alloc, &mut disk) == None);
     must_be_empty(rt, alloc, disk);
 }
 
@@ -31,24 +30,18 @@ fn must_refuse(
     why: FormatError,
     bytes: &[u8],
 ) {
-    match format(alloc, &mut disk, TITLE) {
-        Ok(()) => rt.panic("written over"),
-        Err(error) => must_hold(rt, "why", error == Failed::Because(why)),
-    }
+    let error = begin(alloc, &mut disk);
+    must_hold(rt, "why", error == Some(Failed::Because(why)));
     disk.crash(true);
     must_hold(rt, "as it was", has_bytes(disk, bytes));
 }
 
 /// The disk after an empty journal wasn't written on it, since it failed at this call.
 fn faulted(rt: &impl Abort, alloc: Global, failing: u64) -> MemoryDisk {
-    let mut disk = MemoryDisk::new(alloc, &[failing]).expect(rt, "no memory");
-    match format(alloc, &mut disk, TITLE) {
-        Ok(()) => rt.panic("no fault"),
-        Err(error) => {
-            let why = Failed::Because(FormatError::DiskFault);
-            must_hold(rt, "a fault", error == why);
-        }
-    }
+    let mut disk = disk_failing(rt, alloc, &[failing]);
+    let error = begin(alloc, &mut disk);
+    let fault = Some(Failed::Because(FormatError::DiskFault));
+    must_hold(rt, "a fault", error == fault);
     disk
 }
 
@@ -85,7 +78,7 @@ fn a_journal_is_written_over_none(rt: HostRuntime) {
 /// A disk that doesn't tell its length keeps its journal too.
 #[test]
 fn a_journal_of_no_length_is_left(rt: HostRuntime) {
-    let mut disk = MemoryDisk::new(rt.alloc(), &[2]).expect(&rt, "no memory");
-    assert!(rt; disk.write_at(0, &JOURNAL) == Did::Done(JOURNAL.len()));
+    let mut disk = disk_failing(&rt, rt.alloc(), &[2]);
+    write(&rt, &mut disk, &JOURNAL);
     must_refuse(&rt, rt.alloc(), disk, FormatError::DiskFault, &JOURNAL);
 }
