@@ -2,8 +2,11 @@
 // it: each is held until the other is due.
 use curp_cmd::{NodeId, NodeKind};
 use curp_seat::{Observer, Point};
+use std::sync::Wait;
 use std::sync::atomic::{AtomicU64, Ordering};
 use std::thread;
+use std::thread::Parker;
+use std::time::Duration;
 
 const FIRST_MASTER: NodeId = NodeId {
     kind: NodeKind::Master,
@@ -17,6 +20,9 @@ const FIRST_WITNESS: NodeId = NodeId {
 
 // How many turns a wait for another thread may take.
 const TURNS: u32 = 1_000_000;
+
+// How many milliseconds a run that has ended is watched.
+const WHILE: u64 = 200;
 
 #[derive(Drop)]
 pub(crate) struct Watching {
@@ -67,11 +73,9 @@ impl Watching {
     }
 
     // How many more steps it hears of for a while.
-    pub(crate) fn later_steps(&self) -> u64 {
+    pub(crate) fn later_steps<R: Wait>(&self, rt: &R) -> u64 {
         let steps = self.steps.load(Ordering::SeqCst);
-        for _ in 0..TURNS {
-            thread::yield_now();
-        }
+        Parker::new().park_timeout(rt, Duration::from_millis(WHILE));
         self.steps.load(Ordering::SeqCst).wrapping_sub(steps)
     }
 }

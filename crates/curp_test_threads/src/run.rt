@@ -146,7 +146,7 @@ fn four_end<R: Threads + Wait + Sync>(
 ) -> Result<bool, NoMemory> {
     let observer = Watching::new(false);
     let plan = of_four(protocol, recoveries);
-    Ok(is_made_once(rt, alloc, &plan, &observer)? && observer.later_steps() == 0)
+    Ok(is_made_once(rt, alloc, &plan, &observer)? && observer.later_steps(rt) == 0)
 }
 
 #[test]
@@ -180,14 +180,14 @@ fn of_sixteen(protocol: Protocol) -> LivePlan {
     }
 }
 
-// Whether each of fifty runs of sixteen clients is made once.
-fn fifty_end<R: Threads + Wait + Sync>(
+// Whether each of 25 runs of sixteen clients is made once.
+fn runs_end<R: Threads + Wait + Sync>(
     rt: &R,
     alloc: Global,
     protocol: Protocol,
 ) -> Result<bool, NoMemory> {
     let plan = of_sixteen(protocol);
-    for _ in 0..50 {
+    for _ in 0..25 {
         if !is_made_once(rt, alloc, &plan, &Watching::new(false))? {
             return Ok(false);
         }
@@ -195,29 +195,53 @@ fn fifty_end<R: Threads + Wait + Sync>(
     Ok(true)
 }
 
-// A hundred runs in each protocol, in four tests.
+// A hundred runs in each protocol, in eight tests.
 
 #[test]
-fn runs_1_to_50_of_sixteen_clients_are_made_once(rt: HostRuntime) -> Result<(), Fail> {
-    assert!(rt; fifty_end(&rt, rt.alloc(), Protocol::One)?);
+fn runs_1_to_25_of_sixteen_clients_are_made_once(rt: HostRuntime) -> Result<(), Fail> {
+    assert!(rt; runs_end(&rt, rt.alloc(), Protocol::One)?);
     Ok(())
 }
 
 #[test]
-fn runs_51_to_100_of_sixteen_clients_are_made_once(rt: HostRuntime) -> Result<(), Fail> {
-    assert!(rt; fifty_end(&rt, rt.alloc(), Protocol::One)?);
+fn runs_26_to_50_of_sixteen_clients_are_made_once(rt: HostRuntime) -> Result<(), Fail> {
+    assert!(rt; runs_end(&rt, rt.alloc(), Protocol::One)?);
     Ok(())
 }
 
 #[test]
-fn runs_1_to_50_in_protocol_2_are_made_once(rt: HostRuntime) -> Result<(), Fail> {
-    assert!(rt; fifty_end(&rt, rt.alloc(), Protocol::Two)?);
+fn runs_51_to_75_of_sixteen_clients_are_made_once(rt: HostRuntime) -> Result<(), Fail> {
+    assert!(rt; runs_end(&rt, rt.alloc(), Protocol::One)?);
     Ok(())
 }
 
 #[test]
-fn runs_51_to_100_in_protocol_2_are_made_once(rt: HostRuntime) -> Result<(), Fail> {
-    assert!(rt; fifty_end(&rt, rt.alloc(), Protocol::Two)?);
+fn runs_76_to_100_of_sixteen_clients_are_made_once(rt: HostRuntime) -> Result<(), Fail> {
+    assert!(rt; runs_end(&rt, rt.alloc(), Protocol::One)?);
+    Ok(())
+}
+
+#[test]
+fn runs_1_to_25_in_protocol_2_are_made_once(rt: HostRuntime) -> Result<(), Fail> {
+    assert!(rt; runs_end(&rt, rt.alloc(), Protocol::Two)?);
+    Ok(())
+}
+
+#[test]
+fn runs_26_to_50_in_protocol_2_are_made_once(rt: HostRuntime) -> Result<(), Fail> {
+    assert!(rt; runs_end(&rt, rt.alloc(), Protocol::Two)?);
+    Ok(())
+}
+
+#[test]
+fn runs_51_to_75_in_protocol_2_are_made_once(rt: HostRuntime) -> Result<(), Fail> {
+    assert!(rt; runs_end(&rt, rt.alloc(), Protocol::Two)?);
+    Ok(())
+}
+
+#[test]
+fn runs_76_to_100_in_protocol_2_are_made_once(rt: HostRuntime) -> Result<(), Fail> {
+    assert!(rt; runs_end(&rt, rt.alloc(), Protocol::Two)?);
     Ok(())
 }
 
