@@ -2,7 +2,7 @@
 use Rattle.std.proofs.Common.{◌≡◌, ◌<◌, ◌+◌, ◌++◌, ◌∙◌, zero, suc, ℕ, List, [], ◌∷◌, Some, get_or, length, take, ap, sym, subst, refl, arith}
 use Rattle.std.proofs.lemmas.List.{take_more}
 use Rattle.curp_base.specs.Words.{At, Each}
-use Rattle.curp_base.proofs.Lists.{Each-append}
+use Rattle.curp_base.proofs.Lists.{Each-append, take_one}
 
 -- what is there stands at its place
 pub at_index : {A : Type 0} (xs : List A) (k : ℕ) (d : A) → k < length xs → At xs k (get_or xs k d)
@@ -22,3 +22,7 @@ pub next_too : {A : Type 0} (P : A → Type 0) (xs : List A) (k : ℕ) (x : A) �
 next_too {A} P xs k x within here so_far next =
     let more : take (k + 1) xs ≡ take k xs ++ x ∷ [] = take_more xs k x within ∙ ap (λ (z : A). take k xs ++ z ∷ []) (sym here) in
     subst (λ (zs : List A). Each P zs) (sym more) (Each-append P (take k xs) (x ∷ []) so_far (next, tt))
+
+pub next_at : {A : Type 0} (P : A → Type 0) (xs : List A) (k : ℕ) (x : A) → At xs k x → Each P (take k xs) → P x → Each P (take (k + 1) xs)
+next_at {A} P xs k x at so_far next =
+    subst (λ (zs : List A). Each P zs) (sym (take_one xs k x at)) (Each-append P (take k xs) (x ∷ []) so_far (next, tt))

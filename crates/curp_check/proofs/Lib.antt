@@ -1,3 +1,4 @@
+mod Encoded
 mod Finding
 mod Ids
 pub mod Items

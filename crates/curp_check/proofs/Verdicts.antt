@@ -1,5 +1,5 @@
 -- The clauses of an order by what is found, and the verdict by the clauses.
-use Rattle.std.proofs.Common.{◌≡◌, ◌<◌, ℕ, List, length, Some, sym, ap, ◌∙◌, arith}
+use Rattle.std.proofs.Common.{◌≡◌, ◌<◌, ◌↔◌, ◌⊎◌, inl, inr, ℕ, List, length, Some, Result, Ok, Err, IfOk, refl, sym, ap, ◌∙◌, subst, arith}
 use Rattle.curp_base.specs.Words.{At, Each}
 use Rattle.curp_base.proofs.Lists.{Each-at, Each-from_at, at_within}
 use Rattle.curp_cmd.specs.declared.command.RequestId.{RequestId}
@@ -7,9 +7,11 @@ use Rattle.curp_order.specs.Order.{IsOrder, answers, Asked}
 use Rattle.curp_order.specs.declared.Event.{Event}
 use Rattle.curp_order.specs.declared.Event.TheVariants.{Invoke, Complete}
 use Rattle.curp_check.specs.Found.{AreInTime, Finder, FindsPlaces, HasAnswerOfPlace, IsInvoked, IsFound}
-use Rattle.curp_check.specs.Verdict.{AreInvoked, EachIsAnswered, EachIsInTime, EachStands, Holds, IsFirstBroken, number_of}
+use Rattle.curp_check.specs.Verdict.{AreInvoked, EachIsAnswered, EachIsInTime, EachStands, Holds, IsFirstBroken, IsVerdict, number_of}
 use Rattle.curp_check.specs.declared.verdict.Clause.{Clause}
 use Rattle.curp_check.specs.declared.verdict.Clause.TheVariants.{Invoked, Stands, Answered, InTime}
+use Rattle.curp_check.specs.declared.verdict.Verdict.{Verdict}
+use Rattle.curp_check.specs.declared.verdict.Verdict.TheVariants as verdict
 
 module _ (events : List Event) (order : List Asked) where
   -- ---- the first clause
@@ -118,3 +120,53 @@ module _ (events : List Event) (order : List Asked) where
       earlier Stands less = stands
       earlier Answered less = answered
       earlier InTime less = absurd (omega arith)
+
+-- ---- what a verdict tells
+
+all_hold : (events : List Event) (order : List Asked) (clause : Clause) → IsOrder events order → Holds events order clause
+all_hold events order Invoked is = record { invoked = is.invoked; once = is.once }
+all_hold events order Stands is = is.stands
+all_hold events order Answered is = is.answered
+all_hold events order InTime is = is.in_time
+
+same_number : (one other : Clause) → number_of one ≡ number_of other → one ≡ other
+same_number Invoked Invoked is = refl
+same_number Invoked Stands is = absurd cc
+same_number Invoked Answered is = absurd cc
+same_number Invoked InTime is = absurd cc
+same_number Stands Invoked is = absurd cc
+same_number Stands Stands is = refl
+same_number Stands Answered is = absurd cc
+same_number Stands InTime is = absurd cc
+same_number Answered Invoked is = absurd cc
+same_number Answered Stands is = absurd cc
+same_number Answered Answered is = refl
+same_number Answered InTime is = absurd cc
+same_number InTime Invoked is = absurd cc
+same_number InTime Stands is = absurd cc
+same_number InTime Answered is = absurd cc
+same_number InTime InTime is = refl
+
+one_broken : (events : List Event) (order : List Asked) (one other : Clause) → IsFirstBroken events order one → IsFirstBroken events order other → one ≡ other
+one_broken events order one other first second = elim (compared (number_of one) (number_of other)) [
+  | inl less ↦ absurd (first.broken (second.earlier one less))
+  | inr rest ↦ elim rest [
+    | inl same ↦ same_number one other same
+    | inr more ↦ absurd (second.broken (first.earlier other more))
+  ]
+]
+  where
+    compared : (m n : ℕ) → (m < n) ⊎ ((m ≡ n) ⊎ (n < m))
+    compared m n = grind arith
+
+broken_exactly : (events : List Event) (order : List Asked) (v : Verdict) → IsVerdict events order v → (clause : Clause) → (v ≡ verdict.No clause) ↔ IsFirstBroken events order clause
+broken_exactly events order verdict.Yes is clause = (λ e. absurd cc, λ first. absurd (first.broken (all_hold events order clause is)))
+broken_exactly events order (verdict.No told) is clause = (
+  λ e. let same : told ≡ clause = cc in subst (λ (x : Clause). IsFirstBroken events order x) same is,
+  λ first. ap (λ (x : Clause). verdict.No x) (one_broken events order told clause is first),
+)
+
+pub tells_broken : (events : List Event) (order : List Asked) {E : Type 0} (r : Result Verdict E) → IfOk r (IsVerdict events order) → (clause : Clause)
+    → IfOk r (λ v. (v ≡ verdict.No clause) ↔ IsFirstBroken events order clause)
+tells_broken events order (Ok v) is clause = broken_exactly events order v is clause
+tells_broken events order (Err why) is clause = tt

@@ -1,4 +1,5 @@
 pub mod Claim
 pub mod Found
+pub mod Packed
 pub mod Stages
 pub mod Verdict

@@ -7,8 +7,10 @@ ghost use Rattle.curp_check.specs.Claim.{nothing_claimed, with_event, with_line}
 ghost use Rattle.curp_check.specs.Stages.{request_of, stage_after};
 ghost use Rattle.curp_script.specs.Failing.{IfBecause};
 
+use crate::events::PackedEvents;
+use crate::order::PackedOrder;
 use curp_base::{Failed, NoMemory};
-use curp_cmd::{Command, RequestId};
+use curp_cmd::RequestId;
 use curp_order::Event;
 use curp_script::{EventLine, FieldName, LineError};
 use std::alloc::Global;
@@ -27,8 +29,8 @@ pub(crate) enum RequestStage {
 
 /// A history, and the order that is claimed for it. Contracts see both.
 pub struct Claim {
-    history: Vec<Event>,
-    order: Vec<(RequestId, Command)>,
+    history: PackedEvents,
+    order: PackedOrder,
     // How far each request of the history is.
     stages: BTreeMap<RequestId, RequestStage>,
 }
@@ -51,9 +53,9 @@ impl Model for Claim {
 
     ghost Value = { Claimed };
 
-    ghost view = { λ c. record { events = c.history.items; order = c.order.items } };
+    ghost view = { λ c. record { events = c.history; order = c.order } };
 
-    ghost invariant = { λ c. IsFollowed (get id_cmp c.stages) c.history.items };
+    ghost invariant = { λ c. IsFollowed (get id_cmp c.stages) c.history };
 }
 
 impl Claim {
@@ -62,8 +64,8 @@ impl Claim {
         ensures { result ≡ nothing_claimed }
     {
         Claim {
-            history: Vec::new(alloc),
-            order: Vec::new(alloc),
+            history: PackedEvents::new(alloc),
+            order: PackedOrder::new(alloc),
             stages: BTreeMap::new(alloc),
         }
     }
@@ -81,14 +83,14 @@ impl Claim {
         match line {
             EventLine::Event(event) => self.add_event(event),
             EventLine::Place { id, command } => {
-                self.order.extend_from_slice(&[(*id, *command)])?;
+                self.order.push(*id, command)?;
                 Ok(())
             }
         }
     }
 
     /// The events, the newest last. They are a history.
-    pub fn history(&self) -> &[Event]
+    pub(crate) fn history(&self) -> &PackedEvents
         ensures events { result.now ≡ self.now.events }
         ensures is_history { IsHistory self.now.events }
     {
@@ -96,7 +98,7 @@ impl Claim {
     }
 
     /// The requests of the order.
-    pub fn order(&self) -> &[(RequestId, Command)]
+    pub(crate) fn order(&self) -> &PackedOrder
         ensures { result.now ≡ self.now.order }
     {
         &self.order
@@ -127,29 +129,24 @@ impl Claim {
 }
 
 fn push_event(
-    history: &mut Vec<Event>,
+    history: &mut PackedEvents,
     stages: &mut BTreeMap<RequestId, RequestStage>,
     event: &Event,
     stage: RequestStage,
 ) -> Result<(), NoMemory>
-    ensures history { OnOk result (history.new.items ≡ history.old.items ++ event.now ∷ []) }
+    ensures history { OnOk result (history.new ≡ history.old ++ event.now ∷ []) }
     ensures stages { OnOk result (Updates id_cmp stages.old stages.new (request_of event.now) (Some stage)) }
-    ensures history_stays { OnErr result (history.new.items ≡ history.old.items) }
+    ensures history_stays { OnErr result (history.new ≡ history.old) }
     ensures stages_stay { OnErr result (stages.new.entries ≡ stages.old.entries) }
 {
-    history.reserve(1)?;
-    stages.insert(request_of(event), stage)?;
-    history.push_reserved(match event {
-        Event::Invoke { id, command } => Event::Invoke {
-            id: *id,
-            command: *command,
-        },
-        Event::Complete { id, answer } => Event::Complete {
-            id: *id,
-            answer: *answer,
-        },
-    });
-    Ok(())
+    history.push(event)?;
+    match stages.insert(request_of(event), stage) {
+        Ok(_) => Ok(()),
+        Err(error) => {
+            history.forget_newest();
+            Err(error.into())
+        }
+    }
 }
 
 fn request_of(event: &Event) -> RequestId

@@ -1,18 +1,21 @@
-ghost use Rattle.std.specs.Prelude.{◌≡◌, ◌↔◌, length, IsTrue, IfOk};
+ghost use Rattle.std.specs.Prelude.{◌≡◌, ◌↔◌, ◌<◌, length, IsTrue, IfOk};
 ghost use Rattle.std.specs.BTreeMap.{get};
 ghost use Rattle.curp_base.specs.Words.{At, Each};
 ghost use Rattle.curp_cmd.specs.RequestId.{id_cmp};
 ghost use Rattle.curp_order.specs.Order.{IsHistory, IsOrder, answers};
+ghost use Rattle.curp_order.specs.declared.Event.{Event};
 ghost use Rattle.curp_order.specs.declared.Event.TheVariants as seen;
 ghost use Rattle.curp_check.specs.Found.{FindsInvocations, FindsPlaces, HasAnswerOfPlace, IsInvoked, IsFound};
 ghost use Rattle.curp_check.specs.Verdict.{AreInvoked, IsFirstBroken, IsVerdict};
 
+use crate::events::{Mark, PackedEvents};
+use crate::order::{PackedOrder, answers_in};
 use crate::places::{Places, invocations_in, places_in};
 use crate::sweep::are_in_time;
-use crate::{Clause, Verdict};
+use crate::{Claim, Clause, Verdict};
 use curp_base::NoMemory;
 use curp_cmd::{Answer, Command, RequestId};
-use curp_order::{Event, run_order};
+use curp_order::Event;
 use curp_same::Same;
 use std::alloc::Global;
 
@@ -21,25 +24,20 @@ use std::alloc::Global;
 ///
 /// It takes the time of the history and the order, but for a logarithm, and memory for a place of each request, an answer
 /// of each place and what one thread stores.
-pub fn check(
-    alloc: Global,
-    history: &[Event],
-    order: &[(RequestId, Command)],
-) -> Result<Verdict, NoMemory>
-    requires { IsHistory history.now }
+pub fn check(alloc: Global, claim: &Claim) -> Result<Verdict, NoMemory>
     // It says yes exactly where the order is one of the history.
-    ensures yes { IfOk result (λ verdict. (verdict ≡ Verdict.Yes) ↔ IsOrder history.now order.now) }
+    ensures yes { IfOk result (λ verdict. (verdict ≡ Verdict.Yes) ↔ IsOrder claim.now.events claim.now.order) }
     // It names a clause exactly where that fails and all of lower numbers hold.
     ensures no { (clause : Clause) → IfOk result (λ verdict.
-        (verdict ≡ Verdict.No clause) ↔ IsFirstBroken history.now order.now clause) }
+        (verdict ≡ Verdict.No clause) ↔ IsFirstBroken claim.now.events claim.now.order clause) }
 {
-    verdict_of(alloc, history, order)
+    verdict_of(alloc, claim.history(), claim.order())
 }
 
 fn verdict_of(
     alloc: Global,
-    history: &[Event],
-    order: &[(RequestId, Command)],
+    history: &PackedEvents,
+    order: &PackedOrder,
 ) -> Result<Verdict, NoMemory>
     requires { IsHistory history.now }
     ensures { IfOk result (IsVerdict history.now order.now) }
@@ -60,8 +58,8 @@ fn verdict_of(
 /// The same, where each request was invoked and none stands twice.
 fn verdict_at(
     alloc: Global,
-    history: &[Event],
-    order: &[(RequestId, Command)],
+    history: &PackedEvents,
+    order: &PackedOrder,
     places: &Places,
 ) -> Result<Verdict, NoMemory>
     requires found { FindsPlaces (length order.now) (get id_cmp places.now) order.now }
@@ -73,7 +71,7 @@ fn verdict_at(
             clause: Clause::Stands,
         });
     }
-    let answers = run_order(alloc, order)?;
+    let answers = answers_in(alloc, order)?;
     if !are_answered(history, places, &answers) {
         return Ok(Verdict::No {
             clause: Clause::Answered,
@@ -90,8 +88,8 @@ fn verdict_at(
 /// Whether each request of the order was invoked with its command.
 fn were_invoked(
     alloc: Global,
-    history: &[Event],
-    order: &[(RequestId, Command)],
+    history: &PackedEvents,
+    order: &PackedOrder,
 ) -> Result<bool, NoMemory>
     requires { IsHistory history.now }
     ensures { IfOk result (λ were. IsTrue were ↔ Each (IsInvoked history.now) order.now) }
@@ -100,26 +98,32 @@ fn were_invoked(
     Ok(all_invoked(history, &invocations, order))
 }
 
-fn all_invoked(history: &[Event], invocations: &Places, order: &[(RequestId, Command)]) -> bool
+fn all_invoked(history: &PackedEvents, invocations: &Places, order: &PackedOrder) -> bool
     requires history { IsHistory history.now }
     requires found { FindsInvocations (length history.now) (get id_cmp invocations.now) history.now }
     ensures { IsTrue result ↔ Each (IsInvoked history.now) order.now }
 {
-    for (id, command) in order {
-        if !was_invoked(history, invocations, id, command) {
+    for at in 0..order.len() {
+        let (id, command) = order.asked(at);
+        if !was_invoked(history, invocations, &id, &command) {
             return false;
         }
     }
     true
 }
 
-fn was_invoked(history: &[Event], invocations: &Places, id: &RequestId, command: &Command) -> bool
+fn was_invoked(
+    history: &PackedEvents,
+    invocations: &Places,
+    id: &RequestId,
+    command: &Command,
+) -> bool
     requires history { IsHistory history.now }
     requires found { FindsInvocations (length history.now) (get id_cmp invocations.now) history.now }
     ensures { IsTrue result ↔ IsInvoked history.now (id.now, command.now) }
 {
     match invocations.get(id) {
-        Some(at) => invokes(&history[*at], id, command),
+        Some(at) => invokes(&history.event(*at), id, command),
         None => false,
     }
 }
@@ -131,39 +135,51 @@ fn invokes(event: &Event, id: &RequestId, command: &Command) -> bool
 }
 
 /// Whether each completed request has a place.
-fn are_placed(history: &[Event], places: &Places) -> bool
+fn are_placed(history: &PackedEvents, places: &Places) -> bool
     ensures { IsTrue result ↔ Each (IsFound (get id_cmp places.now)) history.now }
 {
-    for event in history {
-        if !is_placed(places, event) {
+    for at in 0..history.len() {
+        if !is_placed(places, history, at) {
             return false;
         }
     }
     true
 }
 
-fn is_placed(places: &Places, event: &Event) -> bool
-    ensures { IsTrue result ↔ IsFound (get id_cmp places.now) event.now }
+fn is_placed(places: &Places, history: &PackedEvents, at: usize) -> bool
+    requires { at < length history.now }
+    ensures { (e : Event) × At history.now at e × (IsTrue result ↔ IsFound (get id_cmp places.now) e) }
 {
-    match event {
-        Event::Invoke { .. } => true,
-        Event::Complete { id, .. } => places.get(id).is_some(),
+    match history.mark(at) {
+        Mark::Invoke { .. } => true,
+        Mark::Complete { id } => places.get(&id).is_some(),
     }
 }
 
 /// Whether each completed request that has a place has the answer of that place.
-fn are_answered(history: &[Event], places: &Places, answers: &[Answer]) -> bool
+fn are_answered(history: &PackedEvents, places: &Places, answers: &[Answer]) -> bool
     ensures { IsTrue result ↔ Each (HasAnswerOfPlace (get id_cmp places.now) answers.now) history.now }
 {
-    for event in history {
-        if !is_answered(places, answers, event) {
+    for at in 0..history.len() {
+        if !is_answered(places, answers, history, at) {
             return false;
         }
     }
     true
 }
 
-fn is_answered(places: &Places, answers: &[Answer], event: &Event) -> bool
+fn is_answered(places: &Places, answers: &[Answer], history: &PackedEvents, at: usize) -> bool
+    requires { at < length history.now }
+    ensures { (e : Event) × At history.now at e
+        × (IsTrue result ↔ HasAnswerOfPlace (get id_cmp places.now) answers.now e) }
+{
+    match history.mark(at) {
+        Mark::Invoke { .. } => true,
+        Mark::Complete { .. } => has_answer(places, answers, &history.event(at)),
+    }
+}
+
+fn has_answer(places: &Places, answers: &[Answer], event: &Event) -> bool
     ensures { IsTrue result ↔ HasAnswerOfPlace (get id_cmp places.now) answers.now event.now }
 {
     match event {

@@ -9,8 +9,11 @@
 #![tactic(auto)]
 
 mod claim;
+mod events;
 mod judge;
 pub mod laws;
+mod order;
+mod packed;
 mod places;
 mod sweep;
 mod verdict;

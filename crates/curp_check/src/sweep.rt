@@ -4,20 +4,20 @@ ghost use Rattle.std.specs.BTreeMap.{get};
 ghost use Rattle.curp_cmd.specs.RequestId.{id_cmp};
 ghost use Rattle.curp_check.specs.Found.{AreInTime, is_up_to, later_of};
 
+use crate::events::{Mark, PackedEvents};
 use crate::places::Places;
 use curp_cmd::RequestId;
-use curp_order::Event;
 
 /// Whether what completed before another was invoked is found before it.
-pub(crate) fn are_in_time(history: &[Event], places: &Places) -> bool
+pub(crate) fn are_in_time(history: &PackedEvents, places: &Places) -> bool
     ensures { IsTrue result ↔ AreInTime (length history.now) (get id_cmp places.now) history.now }
 {
     let mut latest = None;
     for at in 0..history.len() {
-        match &history[at] {
-            Event::Complete { id, .. } => latest = later_of(place_of(places, id), latest),
-            Event::Invoke { id, .. } => {
-                if is_up_to(latest, place_of(places, id)) {
+        match history.mark(at) {
+            Mark::Complete { id } => latest = later_of(place_of(places, &id), latest),
+            Mark::Invoke { id } => {
+                if is_up_to(latest, place_of(places, &id)) {
                     return false;
                 }
             }

@@ -91,7 +91,7 @@ fn judge_claim<S: Source, K: Sink>(
     ensures never_ok { result ≢ Err Status.Ok }
 {
     read_claim(alloc, source, claim)?;
-    let verdict = check(alloc, claim.history(), claim.order())?;
+    let verdict = check(alloc, claim)?;
     write_verdict(alloc, verdict, sink)
 }
 

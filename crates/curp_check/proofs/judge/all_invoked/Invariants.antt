@@ -3,5 +3,5 @@ use Rattle.curp_base.specs.Words.{Each}
 use Rattle.curp_check.specs.Found.{IsInvoked}
 use Rattle.curp_check.proofs.judge.all_invoked.Given as goal
 
-abbrev pub invariant-loop-id : goal.invariant-loop-id
-invariant-loop-id l = Each (IsInvoked l.history) (take l.id-index l.order)
+abbrev pub invariant-loop-at : goal.invariant-loop-at
+invariant-loop-at l = Each (IsInvoked l.history) (take l.at l.order)

@@ -5,5 +5,5 @@ use Rattle.curp_cmd.specs.RequestId.{id_cmp}
 use Rattle.curp_check.specs.Found.{HasAnswerOfPlace}
 use Rattle.curp_check.proofs.judge.are_answered.Given as goal
 
-abbrev pub invariant-loop-event : goal.invariant-loop-event
-invariant-loop-event l = Each (HasAnswerOfPlace (get id_cmp l.places) l.answers) (take l.event-index l.history)
+abbrev pub invariant-loop-at : goal.invariant-loop-at
+invariant-loop-at l = Each (HasAnswerOfPlace (get id_cmp l.places) l.answers) (take l.at l.history)

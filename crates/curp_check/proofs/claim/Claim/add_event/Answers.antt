@@ -7,8 +7,8 @@ use Rattle.curp_check.proofs.claim.Claim.add_event.Goals as goal
 
 pub returns-in_default-clause-refused : goal.returns-in_default-clause-refused
 returns-in_default-clause-refused c =
-    let events = c.self.inside.history.items in
-    let order = c.self.inside.order.items in
+    let events = c.self.inside.history in
+    let order = c.self.inside.order in
     let claim : Claimed = record { events = events; order = order } in
     let e = c.args.event.now in
     let none = sym (c.stage_after.ensures ∙ ap (stage_after e) (c.copied.ensures ∙ c.get.ensures.value ∙ c.self.invariant.stage _ ∙ ap (stage_of events) c.request_of-id.ensures)) ∙ c.in_default.is in
@@ -16,16 +16,16 @@ returns-in_default-clause-refused c =
 
 pub invariant_of-self : goal.invariant_of-self
 invariant_of-self c =
-    let events = c.self.inside.history.items in
+    let events = c.self.inside.history in
     let e = c.args.event.now in
     let some = sym (c.stage_after.ensures ∙ ap (stage_after e) (c.copied.ensures ∙ c.get.ensures.value ∙ c.self.invariant.stage _ ∙ ap (stage_of events) c.request_of-id.ensures)) ∙ c.in-Some.is in
-    followed_or_not c.push_event.result c.self.inside.stages c.push_event.new.stages events c.push_event.new.history.items e c.in-Some.stage c.self.invariant some
+    followed_or_not c.push_event.result c.self.inside.stages c.push_event.new.stages events c.push_event.new.history e c.in-Some.stage c.self.invariant some
     c.push_event.ensures.history c.push_event.ensures.stages c.push_event.ensures.history_stays c.push_event.ensures.stages_stay
 
 pub invariant_of-self-2 : goal.invariant_of-self-2
 invariant_of-self-2 c =
-    let events = c.self.inside.history.items in
+    let events = c.self.inside.history in
     let e = c.args.event.now in
     let some = sym (c.stage_after.ensures ∙ ap (stage_after e) (c.copied.ensures ∙ c.get.ensures.value ∙ c.self.invariant.stage _ ∙ ap (stage_of events) c.request_of-id.ensures)) ∙ c.in-Some.is in
-    followed_or_not c.push_event.result c.self.inside.stages c.push_event.new.stages events c.push_event.new.history.items e c.in-Some.stage c.self.invariant some
+    followed_or_not c.push_event.result c.self.inside.stages c.push_event.new.stages events c.push_event.new.history e c.in-Some.stage c.self.invariant some
     c.push_event.ensures.history c.push_event.ensures.stages c.push_event.ensures.history_stays c.push_event.ensures.stages_stay
