@@ -137,14 +137,6 @@ answer_there bytes p id is has =
     let there = subst (λ (m : Mark). HasValue bytes m p.place) is has in
     (there.0, answer_stands bytes p.place there.0 there.1)
 
-pub invocation_read : (bytes : List ℕ) (p : PackedEvent) (id : RequestId) (c : Command) → p.mark ≡ kind.Invoke id → StandsAt command bytes p.place c → Invoke id c ≡ event_packed bytes p
-invocation_read bytes p id c is s =
-    ap (λ (d : Command). Invoke id d) (sym (command_seen bytes p.place c s)) ∙ ap (λ (m : Mark). event_by bytes m p.place) (sym is)
-
-pub completion_read : (bytes : List ℕ) (p : PackedEvent) (id : RequestId) (a : Answer) → p.mark ≡ kind.Complete id → StandsAt answer bytes p.place a → Complete id a ≡ event_packed bytes p
-completion_read bytes p id a is s =
-    ap (λ (b : Answer). Complete id b) (sym (answer_seen bytes p.place a s)) ∙ ap (λ (m : Mark). event_by bytes m p.place) (sym is)
-
 -- ---- requests of an order
 
 pub asked_longer : (bytes longer : List ℕ) → IsPrefix bytes longer → (ps : List (RequestId × ℕ)) → Each (HasCommand bytes) ps

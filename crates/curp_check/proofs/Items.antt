@@ -4,12 +4,6 @@ use Rattle.std.proofs.lemmas.List.{take_more}
 use Rattle.curp_base.specs.Words.{At, Each}
 use Rattle.curp_base.proofs.Lists.{Each-append, take_one}
 
--- what is there stands at its place
-pub at_index : {A : Type 0} (xs : List A) (k : ℕ) (d : A) → k < length xs → At xs k (get_or xs k d)
-at_index [] k d within = absurd (omega (arith, within))
-at_index (y ∷ xs) zero d within = refl
-at_index (y ∷ xs) (suc k) d within = at_index xs k d (omega (arith, within))
-
 -- what stands at a place is at it
 pub at_place : {A : Type 0} (xs : List A) (k : ℕ) (x : A) → k < length xs → x ≡ get_or xs k x → At xs k x
 at_place [] k x within here = absurd (omega (arith, within))
