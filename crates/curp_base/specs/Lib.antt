@@ -1,4 +1,5 @@
 pub mod Cases
+pub mod Failing
 pub mod Limits
 pub mod Places
 pub mod Reserving

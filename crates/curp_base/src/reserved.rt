@@ -31,7 +31,8 @@ impl<T> Model for Reserved<T> {
 impl<T> Reserved<T> {
     /// No items. It takes no memory.
     pub fn new(alloc: Global) -> Reserved<T>
-        ensures { result.items ≡ [] }
+        ensures items { result.items ≡ [] }
+        ensures no_room { result.spare ≡ 0 }
     {
         Reserved {
             items: Vec::new(alloc),

@@ -34,7 +34,8 @@ impl<K: Ord, V> Model for ReservedPairs<K, V> {
 impl<K: Ord, V> ReservedPairs<K, V> {
     /// No pairs. It takes no memory.
     pub fn new(alloc: Global) -> ReservedPairs<K, V>
-        ensures { result.items ≡ [] }
+        ensures items { result.items ≡ [] }
+        ensures no_room { result.spare ≡ 0 }
     {
         ReservedPairs {
             pairs: Reserved::new(alloc),

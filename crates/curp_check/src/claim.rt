@@ -5,7 +5,7 @@ ghost use Rattle.curp_order.specs.Order.{IsHistory};
 ghost use Rattle.curp_order.specs.declared.Event as order;
 ghost use Rattle.curp_check.specs.Claim.{nothing_claimed, with_event, with_line};
 ghost use Rattle.curp_check.specs.Stages.{request_of, stage_after};
-ghost use Rattle.curp_script.specs.Failing.{IfBecause};
+ghost use Rattle.curp_base.specs.Failing.{IfBecause};
 
 use crate::events::PackedEvents;
 use crate::order::PackedOrder;

@@ -1,6 +1,4 @@
 ghost use Rattle.std.specs.Prelude.{◌≡◌, ◌≢◌, ◌<◌, length, Ok, Err, IsOk, IfOk, IfErr, IfSome, OnOk};
-ghost use Rattle.std.specs.Option.{option_copied, option_map};
-ghost use Rattle.curp_base.specs.Words.{last_of};
 ghost use Rattle.curp_model.specs.Client as model;
 ghost use Rattle.curp_msg.specs.Moved.{Makes, Moves, numbered_move, quiet};
 ghost use Rattle.curp_msg.specs.Told.{Tells};
@@ -105,13 +103,6 @@ impl Client {
         ensures { result ≡ least_of self.now.state.pending }
     {
         self.pending.least()
-    }
-
-    /// The request that it invoked last, of those that are pending.
-    pub fn newest(&self) -> Option<&Shared<Request>>
-        ensures { option_copied result ≡ option_map (λ p. p.request) (last_of self.now.state.pending) }
-    {
-        self.pending.newest()
     }
 
     /// No request that is pending has a number behind the client's last one, whatever was done.

@@ -2,7 +2,7 @@
 //!
 //! `Client` is a `Core`: its machine is in `specs/Machine.antt`, and is the definition of a client whole. `invoke`, `retry`
 //! and `fetch` are its orders as calls: exact, by `Moves`, over that definition. Each reason comes exactly where the
-//! definition refuses by its number, so a call that is refused wants no memory; after an error nothing has changed. `new`, as at opening, and what tells of its requests (`last`, `pending`, `least_pending`, `newest`): exact.
+//! definition refuses by its number, so a call that is refused wants no memory; after an error nothing has changed. `new`, as at opening, and what tells of its requests (`last`, `pending`, `least_pending`): exact.
 //! That no pending number is past the last one is a clause.
 #![tactic(auto)]
 

@@ -1,8 +1,8 @@
 // The requests of a client that aren't completed.
 ghost use Rattle.std.specs.Prelude.{◌≡◌, ◌<◌, ℕ, length, fold, min, position, true, false, ◌++◌, ◌∷◌, []};
 ghost use Rattle.std.specs.Prelude.{OnOk, OnErr, IfOk};
-ghost use Rattle.std.specs.Option.{option_copied, option_map};
-ghost use Rattle.curp_base.specs.Words.{Each, last_of};
+ghost use Rattle.std.specs.Option.{option_copied};
+ghost use Rattle.curp_base.specs.Words.{Each};
 ghost use Rattle.curp_cmd.specs.RequestId.{same_id};
 ghost use Rattle.curp_model.specs.Client as model;
 ghost use Rattle.curp_client.specs.Evidence.{Completes, kept};
@@ -68,17 +68,6 @@ impl Requests {
             rest.iter()
                 .fold(seq, |least, pending| least.min(pending.request().id.seq)),
         )
-    }
-
-    /// The last of these requests.
-    #[tactic(auto, using(crate::proofs::Found::last_is))]
-    pub(crate) fn newest(&self) -> Option<&Shared<Request>>
-        ensures { option_copied result ≡ option_map (λ (p : model.Pending). p.request) (last_of self.now) }
-    {
-        match self.items.last() {
-            Some(pending) => Some(pending.request()),
-            None => None,
-        }
     }
 
     /// The request of that id.

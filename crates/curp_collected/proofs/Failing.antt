@@ -11,7 +11,7 @@ use Rattle.curp_cmd.specs.declared.node.NodeKind.{NodeKind}
 use Rattle.curp_cmd.specs.declared.node.NodeKind.TheVariants as kinds
 use Rattle.curp_msg.specs.Moved.{Moved, Node}
 use Rattle.curp_msg.specs.Input.{Input}
-use Rattle.curp_msg.specs.Told.{IfBecause}
+use Rattle.curp_base.specs.Failing.{IfBecause}
 use Rattle.curp_msg.specs.declared.script.Header.{Header}
 use Rattle.curp_journal.specs.declared.arrived.Arrived.{Arrived}
 use Rattle.curp_model.specs.Backup.{BackupState, fresh_backup}

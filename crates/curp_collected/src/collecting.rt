@@ -1,5 +1,5 @@
 ghost use Rattle.std.specs.Prelude.{map, IfOk, IfErr};
-ghost use Rattle.curp_msg.specs.Told.{IfBecause};
+ghost use Rattle.curp_base.specs.Failing.{IfBecause};
 ghost use Rattle.curp_collected.specs.Causes.{IsCause};
 ghost use Rattle.curp_collected.specs.Collected.{AreCollected};
 ghost use Rattle.curp_collected.specs.Files.{AreOfHeader, contents_of};

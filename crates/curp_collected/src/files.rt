@@ -2,7 +2,7 @@
 ghost use Rattle.std.specs.Prelude.{◌≡◌, ◌↔◌, map, IfNone, IfOk, IfErr, IfSome, OnOk, IsTrue};
 ghost use Rattle.curp_base.specs.Words.{Each};
 ghost use Rattle.curp_msg.specs.Script.{IsHeader};
-ghost use Rattle.curp_msg.specs.Told.{IfBecause};
+ghost use Rattle.curp_base.specs.Failing.{IfBecause};
 ghost use Rattle.curp_collected.specs.Causes.{IsCause};
 ghost use Rattle.curp_collected.specs.Files.{AreApart, AreOfHeader, HasNoFile, HasNoTitle, HasTitle, IsFileOf, IsNext, IsOfHeader, IsPossible, IsRead, contents_of, is_below, nearer};
 

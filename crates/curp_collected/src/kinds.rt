@@ -10,7 +10,7 @@ ghost use Rattle.curp_model.specs.Witness.{fresh_witness};
 ghost use Rattle.curp_model.specs.World.{opening, opening_client, shape_of};
 ghost use Rattle.curp_client.specs.Machine.{client_machine};
 ghost use Rattle.curp_config.specs.Machine.{manager_machine};
-ghost use Rattle.curp_msg.specs.Told.{IfBecause};
+ghost use Rattle.curp_base.specs.Failing.{IfBecause};
 ghost use Rattle.curp_nodes.specs.Machines.{backup_machine, master_machine, witness_machine};
 ghost use Rattle.curp_collected.specs.Causes.{IsCause};
 ghost use Rattle.curp_collected.specs.Files.{AreOfHeader, contents_of};

@@ -2,7 +2,7 @@
 ghost use Rattle.std.specs.Prelude.{◌≡◌, false, option_to_list, IfOk, IfErr, OnOk};
 ghost use Rattle.curp_journal.specs.Journal.{next_stamp};
 ghost use Rattle.curp_journal.specs.Own.{IsOwn};
-ghost use Rattle.curp_msg.specs.Told.{IfBecause};
+ghost use Rattle.curp_base.specs.Failing.{IfBecause};
 ghost use Rattle.curp_seat.specs.Making.{with_item};
 ghost use Rattle.curp_collected.specs.Causes.{Fails, FailsSo, IsUnread, OneFails, StopsAt, StopsBy};
 ghost use Rattle.curp_collected.specs.Files.{AreOfHeader, IsFileOf, IsJournalAt, contents_of};

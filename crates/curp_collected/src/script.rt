@@ -2,7 +2,7 @@ ghost use Rattle.std.specs.Prelude.{map, length, ◌≤◌, IfOk, IfErr};
 ghost use Rattle.curp_base.specs.Words.{Each};
 ghost use Rattle.curp_msg.specs.Limits.{step_limit};
 ghost use Rattle.curp_msg.specs.Script.{IsHeader};
-ghost use Rattle.curp_msg.specs.Told.{IfBecause};
+ghost use Rattle.curp_base.specs.Failing.{IfBecause};
 ghost use Rattle.curp_script.specs.Printed.{NamesNode};
 ghost use Rattle.curp_collected.specs.Causes.{IsScriptCause};
 ghost use Rattle.curp_collected.specs.Collected.{IsScriptOfFiles};

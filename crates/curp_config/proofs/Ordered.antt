@@ -5,7 +5,8 @@ use Rattle.curp_base.specs.declared.failed.Failed.{Failed}
 use Rattle.curp_base.specs.declared.failed.Failed.TheVariants as failed
 use Rattle.curp_cmd.specs.declared.node.Keeper.{Keeper}
 use Rattle.curp_msg.specs.Moved.{Moved, quiet, refuses, unless_refused}
-use Rattle.curp_msg.specs.Told.{IfBecause, Tells}
+use Rattle.curp_base.specs.Failing.{IfBecause}
+use Rattle.curp_msg.specs.Told.{Tells}
 use Rattle.curp_msg.specs.declared.body.Recover.{Recover}
 use Rattle.curp_msg.specs.declared.config.PartConfig.{PartConfig}
 use Rattle.curp_msg.specs.declared.machine.Local.TheVariants as local

@@ -10,7 +10,8 @@ ghost use Rattle.curp_cmd.specs.Node.{master_node};
 ghost use Rattle.curp_model.specs.Manager as model;
 ghost use Rattle.curp_msg.specs.declared.machine.Local.TheVariants as local;
 ghost use Rattle.curp_msg.specs.Moved.{Moves};
-ghost use Rattle.curp_msg.specs.Told.{IfBecause, Tells};
+ghost use Rattle.curp_base.specs.Failing.{IfBecause};
+ghost use Rattle.curp_msg.specs.Told.{Tells};
 
 use crate::{Manager, RecoverError};
 use curp_base::{Boxed, Failed, Items, NoMemory};

@@ -9,7 +9,8 @@ ghost use Rattle.curp_config.specs.Work.{in_work, lists_of};
 ghost use Rattle.curp_model.specs.Manager as model;
 ghost use Rattle.curp_msg.specs.declared.machine.Local.TheVariants as local;
 ghost use Rattle.curp_msg.specs.Moved.{Moves};
-ghost use Rattle.curp_msg.specs.Told.{IfBecause, Tells};
+ghost use Rattle.curp_base.specs.Failing.{IfBecause};
+ghost use Rattle.curp_msg.specs.Told.{Tells};
 
 use crate::{Manager, ReplaceError};
 use curp_base::{Failed, Items, NoMemory};

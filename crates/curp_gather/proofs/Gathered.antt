@@ -3,7 +3,7 @@ use Rattle.std.proofs.Common.{◌≡◌, ◌≤◌, IfErr, IfOk, List, Ok, Err, 
 use Rattle.std.specs.Global.{Vec}
 use Rattle.curp_base.specs.declared.failed.Failed.{Failed}
 use Rattle.curp_msg.specs.Limits.{step_limit, weight_limit}
-use Rattle.curp_msg.specs.Told.{IfBecause}
+use Rattle.curp_base.specs.Failing.{IfBecause}
 use Rattle.curp_msg.specs.declared.script.Header.{Header}
 use Rattle.curp_msg.specs.declared.script.Step.{Step}
 use Rattle.curp_law_weave.proofs.Gives.{legal_runs}

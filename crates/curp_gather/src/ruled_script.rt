@@ -3,7 +3,7 @@ ghost use Rattle.curp_gather.specs.Journals.{AreOf, IsScriptOf, journals_of};
 ghost use Rattle.curp_merge.specs.Held.{AllHeld};
 ghost use Rattle.curp_merge.specs.Merging.{turn_count, weight_sent};
 ghost use Rattle.curp_msg.specs.Limits.{step_limit, weight_limit};
-ghost use Rattle.curp_msg.specs.Told.{IfBecause};
+ghost use Rattle.curp_base.specs.Failing.{IfBecause};
 ghost use Rattle.curp_gather.specs.Causes.{IsRuledCause};
 
 use crate::{GatherError, Ruled, RuledError, gather_held, ruled_journals_hold, strands_of};

@@ -40,7 +40,8 @@ impl Model for CutEpochs {
 impl CutEpochs {
     /// No epochs. It takes no memory.
     pub fn new(alloc: Global) -> CutEpochs
-        ensures { result.epochs ≡ [] }
+        ensures epochs { result.epochs ≡ [] }
+        ensures no_room { result.most ≡ 0 }
     {
         CutEpochs {
             epochs: Reserved::new(alloc),

@@ -50,7 +50,8 @@ impl Model for Cuts {
 impl Cuts {
     /// No adoptions. It takes no memory.
     pub fn new(alloc: Global) -> Cuts
-        ensures { result.cuts ≡ [] }
+        ensures cuts { result.cuts ≡ [] }
+        ensures no_room { result.most ≡ 0 }
     {
         Cuts {
             list: Reserved::new(alloc),

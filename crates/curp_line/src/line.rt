@@ -58,7 +58,8 @@ impl Model for Line {
 impl Line {
     /// No marks. It takes no memory.
     pub fn new(alloc: Global) -> Line
-        ensures { result.marks ≡ [] }
+        ensures marks { result.marks ≡ [] }
+        ensures no_room { result.most ≡ 0 }
     {
         Line {
             alloc,

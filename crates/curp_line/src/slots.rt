@@ -49,7 +49,8 @@ impl Model for MarkSlots {
 impl MarkSlots {
     /// No slots. It takes no memory.
     pub fn new(alloc: Global) -> MarkSlots
-        ensures { result.slots ≡ [] }
+        ensures slots { result.slots ≡ [] }
+        ensures no_room { result.most ≡ 0 }
     {
         MarkSlots {
             list: Vec::new(alloc),

@@ -3,7 +3,7 @@ ghost use Rattle.curp_merge.specs.Causes.{IsCause};
 ghost use Rattle.curp_merge.specs.Held.{AllHeld};
 ghost use Rattle.curp_merge.specs.Merging.{AreJournals, Merged, turn_count, weight_sent};
 ghost use Rattle.curp_msg.specs.Limits.{step_limit, weight_limit};
-ghost use Rattle.curp_msg.specs.Told.{IfBecause};
+ghost use Rattle.curp_base.specs.Failing.{IfBecause};
 
 use crate::count::{turn_count, weight_sent};
 use crate::mismatch::first_mismatch;

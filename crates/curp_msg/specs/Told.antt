@@ -1,5 +1,5 @@
 -- How a call tells what it makes of an order: what the node does, the reason for which it is refused, or that there was no memory (this project's own).
-use Rattle.std.specs.Prelude.{◌≡◌, ℕ, [], None, Result, Ok, Err, ⊤}
+use Rattle.std.specs.Prelude.{◌≡◌, ℕ, [], None, Result, Ok, Err}
 use Rattle.std.specs.declared.alloc.AllocError.{AllocError}
 use Rattle.curp_base.specs.declared.failed.Failed.{Failed}
 use Rattle.curp_base.specs.declared.failed.Failed.TheVariants as failed
@@ -10,11 +10,6 @@ abbrev pub Tells : {A E : Type 0} → (E → ℕ) → ℕ → Result A (Failed E
 Tells number refused (Ok done) = refused ≡ 0
 Tells number refused (Err failed.NoMemory) = refused ≡ 0
 Tells number refused (Err (failed.Because why)) = refused ≡ number why
-
--- the reason is such a one, where there is one
-abbrev pub IfBecause : {E : Type 0} → (E → Type 0) → Failed E → Type 0
-IfBecause IsSo failed.NoMemory = ⊤
-IfBecause IsSo (failed.Because why) = IsSo why
 
 -- a refusal is told by its number, and no memory as it is
 abbrev pub told : {E : Type 0} → (E → ℕ) → Result Done (Failed E) → Result Done AllocError

@@ -4,7 +4,7 @@ ghost use Rattle.curp_io.specs.Streams.{HoldsPart};
 ghost use Rattle.curp_check.specs.Claim.{ClaimText, Claimed, IsClaimOfOrder, claim_in, claim_limit, nothing_claimed, with_read};
 ghost use Rattle.curp_check.specs.declared.verdict.Clause.{Clause};
 ghost use Rattle.curp_script.specs.Events.{event_in};
-ghost use Rattle.curp_script.specs.Failing.{IfBecause};
+ghost use Rattle.curp_base.specs.Failing.{IfBecause};
 ghost use Rattle.curp_script.specs.Script.{Whole};
 ghost use Rattle.curp_runner.specs.Reading.{IsBehind, IsOfReading, IsOfWriting};
 ghost use Rattle.curp_runner.specs.Status.{ended, is_cut_short};

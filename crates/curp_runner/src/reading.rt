@@ -1,7 +1,7 @@
 ghost use Rattle.std.specs.Prelude.{◌≡◌, ◌≢◌, ◌+◌, ◌≤◌, ◌++◌, ℕ, [], true, None, Some, List, Ok, Err, Result, OnOk, IfOk, IfErr, IfSome, ⊤};
 ghost use Rattle.curp_io.specs.Streaming.{TellsFault};
 ghost use Rattle.curp_io.specs.Text.{lines_of, nothing_read};
-ghost use Rattle.curp_script.specs.Failing.{Gives};
+ghost use Rattle.curp_base.specs.Failing.{Gives};
 ghost use Rattle.curp_script.specs.Grammar.{header_in, step_in};
 ghost use Rattle.curp_script.specs.Headers.{bad_field};
 ghost use Rattle.curp_script.specs.Manage.{HasCall, manage_in};

@@ -2,7 +2,6 @@ pub mod Digits
 pub mod EventKinds
 pub mod EventTexts
 pub mod Events
-pub mod Failing
 pub mod Grammar
 pub mod Headers
 pub mod Kinds

@@ -1,7 +1,7 @@
 ghost use Rattle.std.specs.Prelude.{◌≡◌, IfOk};
 ghost use Rattle.curp_script.specs.Values.{value_data};
 ghost use Rattle.curp_script.specs.Events.{event_in};
-ghost use Rattle.curp_script.specs.Failing.{Gives};
+ghost use Rattle.curp_base.specs.Failing.{Gives};
 ghost use Rattle.curp_script.specs.Grammar.{header_in, step_in, header_of, protocol_at};
 ghost use Rattle.curp_script.specs.Headers.{bad_field};
 ghost use Rattle.curp_script.specs.Manage.{HasCall, manage_in};

@@ -53,7 +53,8 @@ impl Model for SentMessages {
 impl SentMessages {
     /// Nothing was sent yet. It takes no memory.
     pub fn new(alloc: Global) -> SentMessages
-        ensures { result.lists ≡ [] }
+        ensures lists { result.lists ≡ [] }
+        ensures no_room { result.most ≡ 0 }
     {
         SentMessages {
             batches: Reserved::new(alloc),

@@ -47,7 +47,8 @@ impl Model for Queue {
 impl Queue {
     /// No ids. It takes no memory.
     pub fn new(alloc: Global) -> Queue
-        ensures { result.waiting ≡ [] }
+        ensures waiting { result.waiting ≡ [] }
+        ensures no_room { result.most ≡ 0 }
     {
         Queue {
             alloc,

@@ -27,16 +27,16 @@ pub(crate) fn write_ask<W: fmt::Write>(
     )
 }
 
-pub(crate) fn write_record<W: fmt::Write>(f: &mut fmt::Formatter<W>, record: &Record) -> fmt::Result
-    ensures { WritesOnOk W.write_str_gives f.old result (body_text (body.Record record.now)) f.new }
+pub(crate) fn write_record<W: fmt::Write>(f: &mut fmt::Formatter<W>, recorded: &Record) -> fmt::Result
+    ensures { WritesOnOk W.write_str_gives f.old result (body_text (body.Record recorded.now)) f.new }
 {
     write!(
         f,
         "record {} f{} e{} {}",
-        record.request.id,
-        Decimal(record.request.first as u64),
-        Decimal(record.epoch as u64),
-        record.request.command
+        recorded.request.id,
+        Decimal(recorded.request.first as u64),
+        Decimal(recorded.epoch as u64),
+        recorded.request.command
     )
 }
 

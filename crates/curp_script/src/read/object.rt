@@ -9,7 +9,7 @@ ghost use Rattle.json.specs.Value.{value_view, items_view, members_view};
 ghost use Rattle.serde_json.specs.Data.{no_members};
 ghost use Rattle.serde_json.specs.Find.{get, as_null, as_bool, as_number, as_u64, as_str, as_array, as_object};
 ghost use Rattle.serde_json.specs.Read.{max_depth};
-ghost use Rattle.curp_script.specs.Failing.{IfBecause};
+ghost use Rattle.curp_base.specs.Failing.{IfBecause};
 ghost use Rattle.curp_script.specs.Grammar.{object_in, listed, has_only, is_one_of};
 ghost use Rattle.curp_script.specs.Values.{value_data, values_data, is_readable, are_items_readable, are_members_readable};
 ghost use Rattle.curp_script.specs.Text.{field_text};

@@ -1,5 +1,5 @@
 ghost use Rattle.std.specs.Prelude.{◌≡◌, IfOk};
-ghost use Rattle.curp_script.specs.Failing.{Gives};
+ghost use Rattle.curp_base.specs.Failing.{Gives};
 ghost use Rattle.curp_script.specs.Grammar.{step_of, values_of};
 ghost use Rattle.curp_script.specs.Values.{value_data};
 ghost use Rattle.curp_script.specs.Unshared.{step_said, said};

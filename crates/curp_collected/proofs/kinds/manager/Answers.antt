@@ -1,5 +1,5 @@
 use Rattle.std.proofs.lemmas.Result.{err_from_is_err_and}
-use Rattle.curp_msg.specs.Told.{IfBecause}
+use Rattle.curp_base.specs.Failing.{IfBecause}
 use Rattle.curp_collected.specs.Causes.{IsCause}
 use Rattle.curp_collected.specs.Files.{contents_of}
 use Rattle.curp_collected.proofs.Failing.{IfBecause-weaker, manager_cause}

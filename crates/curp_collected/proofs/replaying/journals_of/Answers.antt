@@ -5,7 +5,7 @@ use Rattle.std.proofs.lemmas.List.{append-nil}
 use Rattle.std.proofs.lemmas.Option.{slice_get_read}
 use Rattle.std.proofs.lemmas.Result.{err_from_is_err_and}
 use Rattle.curp_base.specs.Words.{At}
-use Rattle.curp_msg.specs.Told.{IfBecause}
+use Rattle.curp_base.specs.Failing.{IfBecause}
 use Rattle.curp_collected.specs.Causes.{OneFails}
 use Rattle.curp_collected.specs.Files.{contents_of}
 use Rattle.curp_collected.specs.Kinds.{HasLog, HaveLogs}

@@ -6,7 +6,7 @@ use Rattle.std.proofs.lemmas.Option.{slice_get_read}
 use Rattle.std.proofs.lemmas.Result.{err_from_is_err_and}
 use Rattle.curp_base.specs.Words.{At}
 use Rattle.curp_journal.specs.Journal.{last_stamp, next_stamp}
-use Rattle.curp_msg.specs.Told.{IfBecause}
+use Rattle.curp_base.specs.Failing.{IfBecause}
 use Rattle.curp_collected.specs.Causes.{StopsAt}
 use Rattle.curp_collected.specs.Taking.{is_past}
 use Rattle.curp_collected.proofs.Failing.{IfBecause-weaker}

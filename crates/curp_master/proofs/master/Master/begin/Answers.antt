@@ -34,7 +34,7 @@ returns-clause-state c =
       captured = c.new-2.ensures.count i;
       held = c.new-3.ensures i;
       free = (kept i).free;
-      queue = c.new-4.ensures i;
+      queue = c.new-4.ensures.waiting i;
       phase = Open;
     }
 

@@ -1,4 +1,4 @@
--- What a call that takes memory gives.
+-- What a call gives that takes memory.
 use Rattle.std.specs.Prelude.{◌≡◌, Result, Ok, Err, ⊤}
 use Rattle.curp_base.specs.declared.failed.Failed.{Failed}
 use Rattle.curp_base.specs.declared.failed.Failed.TheVariants as failed
