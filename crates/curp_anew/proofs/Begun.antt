@@ -7,7 +7,7 @@ use Rattle.curp_cmd.specs.declared.node.NodeId.{NodeId}
 use Rattle.curp_cmd.specs.declared.node.NodeKind.{NodeKind}
 use Rattle.curp_msg.specs.Moved.{Node}
 use Rattle.curp_journal.specs.Journal.{NodeJournal}
-use Rattle.curp_opening.specs.Nodes.{HasNumbers, states}
+use Rattle.curp_nodes.specs.Nodes.{HasNumbers, states}
 use Rattle.curp_journal.specs.Turns.{Journal}
 use Rattle.curp_gather.specs.Journals.{Begins, NodesAscend, journal_of}
 use Rattle.curp_anew.specs.Opening.{AllOwn, AreAnew, IsAnew, IsOneOf}

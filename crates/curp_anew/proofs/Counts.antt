@@ -7,7 +7,7 @@ use Rattle.curp_msg.specs.Moved.{Node}
 use Rattle.curp_msg.specs.declared.script.Header.{Header}
 use Rattle.curp_msg.specs.Script.{IsHeader}
 use Rattle.curp_model.specs.World.{opening, opening_client, opening_master, shape_of}
-use Rattle.curp_opening.specs.Nodes.{states}
+use Rattle.curp_nodes.specs.Nodes.{states}
 use Rattle.curp_anew.specs.Opening.{IsOpening}
 use Rattle.curp_anew.specs.declared.nodes.LiveNodes.{LiveNodes}
 use Rattle.curp_base.proofs.Numbered.{length-numbers}

@@ -2,8 +2,8 @@
 use Rattle.std.proofs.Common.{◌≡◌, ℕ, ◌+◌, List, [], ◌∷◌, ◌++◌, length, length-append, replicate, append_assoc, append-nil, ap, sym, ◌∙◌, arith}
 use Rattle.std.proofs.lemmas.List.{map-append, replicate_more}
 use Rattle.curp_msg.specs.Moved.{Node}
-use Rattle.curp_opening.specs.Nodes.{HasNumbers, states}
-use Rattle.curp_opening.proofs.Numbers.{numbers_push}
+use Rattle.curp_nodes.specs.Nodes.{HasNumbers, states}
+use Rattle.curp_nodes.proofs.Numbers.{numbers_push}
 
 -- so many are there, in these states, and behind them so many in one state
 pub record AreFresh {S : Type 0} (nodes : List (Node S)) (all : List S) (fresh : S) (there count : ℕ) : Type 0 where

@@ -15,7 +15,7 @@ use Rattle.curp_model.specs.Witness.{fresh_witness}
 use Rattle.curp_model.specs.World.{opening}
 use Rattle.curp_law_weave.specs.Run.{TakesFirst}
 use Rattle.curp_journal.specs.Own.{IsOwn}
-use Rattle.curp_opening.specs.Nodes.{HasNumbers, states}
+use Rattle.curp_nodes.specs.Nodes.{HasNumbers, states}
 use Rattle.curp_gather.specs.declared.journals.Journals.{Journals}
 use Rattle.curp_anew.specs.declared.nodes.LiveNodes.{LiveNodes}
 

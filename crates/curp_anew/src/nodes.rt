@@ -7,7 +7,7 @@ ghost use Rattle.curp_model.specs.Manager.{opening_config};
 ghost use Rattle.curp_model.specs.Recovery.{Fresh};
 ghost use Rattle.curp_model.specs.Witness.{fresh_witness, started_witness};
 ghost use Rattle.curp_model.specs.World.{opening_master, shape_of};
-ghost use Rattle.curp_opening.specs.Nodes.{HasNumbers, states};
+ghost use Rattle.curp_nodes.specs.Nodes.{HasNumbers, states};
 ghost use Rattle.curp_anew.specs.Opening.{IsOpening};
 
 use curp_base::NoMemory;
@@ -35,8 +35,8 @@ impl LiveNodes {
         requires recoveries { recoveries ≤ 8 }
         ensures { IfOk result (λ nodes. IsOpening header.now recoveries nodes) }
     {
-        let manager = curp_opening::manager(alloc, header)?;
-        let clients = curp_opening::clients(alloc, header, manager.config())?;
+        let manager = curp_nodes::manager(alloc, header)?;
+        let clients = curp_nodes::clients(alloc, header, manager.config())?;
         let masters = masters(alloc, header, manager.config(), recoveries)?;
         let backups = backups(alloc, header, recoveries)?;
         let witnesses = witnesses(alloc, header, recoveries)?;
@@ -63,7 +63,7 @@ fn masters(
         ≡ map (opening_master (shape_of header.now)) (numbers_from 1 header.now.parts) ++ replicate fresh Fresh) }
     ensures numbers { IfOk result (λ nodes. HasNumbers nodes.items) }
 {
-    let masters = curp_opening::masters(alloc, header, config)?;
+    let masters = curp_nodes::masters(alloc, header, config)?;
     with_fresh_masters(alloc, header.parts, fresh, masters)
 }
 
@@ -76,7 +76,7 @@ fn backups(alloc: Global, header: &Header, recoveries: u32) -> Result<Vec<Backup
     ensures numbers { IfOk result (λ nodes. HasNumbers nodes.items) }
 {
     let count = header.parts * header.f;
-    let backups = curp_opening::backups(alloc, count)?;
+    let backups = curp_nodes::backups(alloc, count)?;
     with_fresh_backups(alloc, count, recoveries * header.f, backups)
 }
 
@@ -89,7 +89,7 @@ fn witnesses(alloc: Global, header: &Header, recoveries: u32) -> Result<Vec<Witn
     ensures numbers { IfOk result (λ nodes. HasNumbers nodes.items) }
 {
     let count = header.parts * header.f;
-    let witnesses = curp_opening::witnesses(alloc, count, header.sets, header.ways)?;
+    let witnesses = curp_nodes::witnesses(alloc, count, header.sets, header.ways)?;
     with_fresh_witnesses(alloc, header, count, recoveries * header.f, witnesses)
 }
 

@@ -7,8 +7,7 @@ ghost use Rattle.curp_anew.specs.Live.{DidInOrder, FewPending};
 use curp_cmd::{Command, RequestId};
 use curp_journal::{Arrived, Item};
 use curp_msg::Local;
-use curp_nodes::ClientNode;
-use curp_opening::PENDING_AT_ONCE;
+use curp_nodes::{ClientNode, PENDING_AT_ONCE};
 use curp_same::Same;
 use curp_seat::Kept;
 

@@ -9,7 +9,7 @@ use Rattle.curp_base.proofs.Lists.{at_set_same}
 use Rattle.curp_msg.specs.Moved.{Moved, Moves, MovesAt, Node, numbered_move, within}
 use Rattle.curp_msg.specs.declared.machine.Done.{Done}
 use Rattle.curp_model.specs.World.{World, moves_one}
-use Rattle.curp_opening.specs.Nodes.{HasNumbers}
+use Rattle.curp_nodes.specs.Nodes.{HasNumbers}
 use Rattle.curp_cluster.specs.Nodes.{NodeStates, nodes_of}
 use Rattle.curp_cluster.proofs.Numbered.{map_set, numbered_at, numbers_set}
 

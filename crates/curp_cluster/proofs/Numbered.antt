@@ -4,7 +4,7 @@ use Rattle.std.specs.Option.{option_copied, option_map}
 use Rattle.curp_base.specs.Words.{At, numbered}
 use Rattle.curp_base.proofs.Lists.{at_set_cases, at_map}
 use Rattle.curp_msg.specs.Moved.{Node}
-use Rattle.curp_opening.specs.Nodes.{HasNumbers}
+use Rattle.curp_nodes.specs.Nodes.{HasNumbers}
 
 -- the list of something of nodes, where one node has another state
 pub map_set : {A B : Type 0} (f : A → B) (xs : List A) (k : ℕ) (y : A) → slice_set (map f xs) k (f y) ≡ map f (slice_set xs k y)

@@ -10,10 +10,10 @@ use Rattle.curp_model.specs.Witness.{WitnessState, started_witness}
 use Rattle.curp_model.specs.World.{opening, opening_master, shape_of, opening_client}
 use Rattle.curp_msg.specs.Moved.{Node}
 use Rattle.curp_msg.specs.declared.script.Header.{Header}
-use Rattle.curp_opening.specs.Nodes.{HasNumbers, states}
-use Rattle.curp_opening.proofs.Numbers.{named_length}
+use Rattle.curp_nodes.specs.Nodes.{HasNumbers, states}
+use Rattle.curp_nodes.proofs.Numbers.{named_length}
 use Rattle.curp_cluster.specs.Nodes.{AreNumbered, nodes_of}
-use Rattle.curp_opening.proofs.Additions.{none_ahead}
+use Rattle.curp_nodes.proofs.Additions.{none_ahead}
 
 -- nodes that are made as the header says are those of the opening
 pub made_opening : (h : Header) (manager : ManagerState) (clients : List (Node ClientState)) (masters : List (Node MasterStage))

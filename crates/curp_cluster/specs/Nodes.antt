@@ -12,7 +12,7 @@ use Rattle.curp_msg.specs.Input.{Input}
 use Rattle.curp_msg.specs.Input as input
 use Rattle.curp_msg.specs.declared.machine.Local.{Local}
 use Rattle.curp_msg.specs.declared.machine.Local.TheVariants as local
-use Rattle.curp_opening.specs.Nodes.{HasNumbers, IsAhead}
+use Rattle.curp_nodes.specs.Nodes.{HasNumbers, IsAhead}
 
 -- ---- how they are numbered
 

@@ -16,7 +16,7 @@ use curp_base::NoMemory;
 use curp_cmd::{NodeId, NodeKind};
 use curp_msg::{Done, Header, Input};
 use curp_nodes::{BackupNode, ClientNode, ManagerNode, MasterNode, WitnessNode};
-use curp_opening::growing::{add_backups, add_masters, make_ahead, take_up};
+use curp_nodes::growing::{add_backups, add_masters, make_ahead, take_up};
 use std::alloc::Global;
 use std::marker::Model;
 
@@ -36,7 +36,7 @@ pub(crate) struct Nodes {
 }
 
 impl Model for Nodes {
-    ghost use Rattle.curp_opening.specs.Nodes.{states};
+    ghost use Rattle.curp_nodes.specs.Nodes.{states};
     ghost use Rattle.curp_cluster.specs.Nodes.{AreNumbered, NodeStates};
 
     ghost Value = { NodeStates };
@@ -57,23 +57,23 @@ impl Model for Nodes {
 
 impl Nodes {
     /// The nodes of a header as at opening.
-    #[tactic(auto, using(curp_opening::proofs::Numbers::few_keepers))]
+    #[tactic(auto, using(curp_nodes::proofs::Numbers::few_keepers))]
     pub(crate) fn new(alloc: Global, header: &Header) -> Result<Nodes, NoMemory>
         requires { IsHeader header.now }
         ensures { IfOk result (λ nodes. nodes ≡ nodes_of (world.opening header.now)) }
     {
         let keepers = header.parts * header.f;
-        let managing = curp_opening::manager(alloc, header)?;
+        let managing = curp_nodes::manager(alloc, header)?;
         let config = managing.config();
-        let clients = curp_opening::clients(alloc, header, config)?;
-        let masters = curp_opening::masters(alloc, header, config)?;
+        let clients = curp_nodes::clients(alloc, header, config)?;
+        let masters = curp_nodes::masters(alloc, header, config)?;
         Ok(Nodes {
             alloc,
             manager: managing,
             clients,
             masters,
-            backups: curp_opening::backups(alloc, keepers)?,
-            witnesses: curp_opening::witnesses(alloc, keepers, header.sets, header.ways)?,
+            backups: curp_nodes::backups(alloc, keepers)?,
+            witnesses: curp_nodes::witnesses(alloc, keepers, header.sets, header.ways)?,
             ahead: Vec::new(alloc),
             sets: header.sets,
             ways: header.ways,

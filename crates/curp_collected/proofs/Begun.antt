@@ -9,7 +9,7 @@ use Rattle.curp_base.proofs.Numbered.{at_place}
 use Rattle.curp_cmd.specs.declared.node.NodeId.{NodeId}
 use Rattle.curp_cmd.specs.declared.node.NodeKind.{NodeKind}
 use Rattle.curp_msg.specs.Moved.{Node}
-use Rattle.curp_opening.specs.Nodes.{HasNumbers, states}
+use Rattle.curp_nodes.specs.Nodes.{HasNumbers, states}
 use Rattle.curp_collected.specs.Files.{HasNoneAbove, IsNextNumber}
 use Rattle.curp_collected.specs.Kinds.{AreBegun, AreThere, BeginsBy, Names, Rise, numbered_from}
 use Rattle.curp_collected.specs.declared.beginning.Beginning.{Beginning}

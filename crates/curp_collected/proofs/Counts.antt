@@ -6,7 +6,7 @@ use Rattle.curp_base.proofs.Numbered.{length-numbers}
 use Rattle.curp_msg.specs.Moved.{Node}
 use Rattle.curp_msg.specs.declared.script.Header.{Header}
 use Rattle.curp_model.specs.World.{opening, opening_client, opening_master, shape_of}
-use Rattle.curp_opening.specs.Nodes.{states}
+use Rattle.curp_nodes.specs.Nodes.{states}
 
 -- as many as there are states
 pub long_states : {S : Type 0} (nodes : List (Node S)) (all : List S) (n : ℕ) → states nodes ≡ all → length all ≡ n → length nodes ≡ n

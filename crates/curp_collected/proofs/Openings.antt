@@ -16,7 +16,7 @@ use Rattle.curp_model.specs.World.{opening, opening_client}
 use Rattle.curp_journal.specs.Journal.{NodeJournal}
 use Rattle.curp_client.specs.Machine.{client_machine}
 use Rattle.curp_config.specs.Machine.{manager_machine}
-use Rattle.curp_opening.specs.Nodes.{states}
+use Rattle.curp_nodes.specs.Nodes.{states}
 use Rattle.curp_gather.specs.Journals.{IsClientJournal}
 use Rattle.curp_collected.proofs.Counts.{client_count, long_states, master_count}
 use Rattle.curp_collected.specs.Files.{AreOfHeader, IsOfHeader, contents_of}

@@ -11,7 +11,7 @@ use Rattle.curp_journal.specs.declared.arrived.Arrived.{Arrived}
 use Rattle.curp_law_weave.specs.Run.{TakesFirst}
 use Rattle.curp_gather.specs.Journals.{IsManagerJournal, NodesAscend}
 use Rattle.curp_anew.specs.Opening.{AllOwn}
-use Rattle.curp_opening.specs.Nodes.{HasNumbers, states}
+use Rattle.curp_nodes.specs.Nodes.{HasNumbers, states}
 use Rattle.curp_model.specs.Manager.{ManagerState}
 use Rattle.curp_config.specs.Machine.{manager_machine}
 use Rattle.curp_collected.specs.Files.{HasTitleAt, IsJournalAt}

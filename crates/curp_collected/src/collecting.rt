@@ -38,7 +38,7 @@ fn journals_in(files: &Files<'_>) -> Result<Journals, Failed<CollectError>>
         (AreCollected (contents_of files.now.each.items) files.now.until files.now.header) }
     ensures cause { IfErr result (IfBecause (IsCause (contents_of files.now.each.items))) }
 {
-    let first = curp_opening::manager(files.alloc, &files.header)?;
+    let first = curp_nodes::manager(files.alloc, &files.header)?;
     let clients = clients(files, first.config())?;
     let masters = masters(files, first.config())?;
     let backups = backups(files)?;

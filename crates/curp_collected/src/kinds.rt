@@ -61,7 +61,7 @@ pub(crate) fn clients(
         (contents_of files.now.each.items) files.now.until files.now.header logs.items) }
     ensures cause { IfErr result (IfBecause (IsCause (contents_of files.now.each.items))) }
 {
-    let nodes = curp_opening::clients(files.alloc, &files.header, config)?;
+    let nodes = curp_nodes::clients(files.alloc, &files.header, config)?;
     let begun = numbered(files.alloc, NodeKind::Client, nodes)?;
     journals_of(files, begun)
 }
@@ -77,7 +77,7 @@ pub(crate) fn masters(
         (contents_of files.now.each.items) files.now.until files.now.header logs.items) }
     ensures cause { IfErr result (IfBecause (IsCause (contents_of files.now.each.items))) }
 {
-    let nodes = curp_opening::masters(files.alloc, &files.header, config)?;
+    let nodes = curp_nodes::masters(files.alloc, &files.header, config)?;
     let begun = numbered(files.alloc, NodeKind::Master, nodes)?;
     let begun = with_fresh_masters(files, files.header.parts, begun)?;
     journals_of(files, begun)
@@ -91,7 +91,7 @@ pub(crate) fn backups(files: &Files<'_>) -> Result<Vec<Kept<BackupNode>>, Failed
     ensures cause { IfErr result (IfBecause (IsCause (contents_of files.now.each.items))) }
 {
     let count = files.header.parts * files.header.f;
-    let nodes = curp_opening::backups(files.alloc, count)?;
+    let nodes = curp_nodes::backups(files.alloc, count)?;
     let begun = numbered(files.alloc, NodeKind::Backup, nodes)?;
     let begun = with_fresh_backups(files, count, begun)?;
     journals_of(files, begun)
@@ -106,7 +106,7 @@ pub(crate) fn witnesses(files: &Files<'_>) -> Result<Vec<Kept<WitnessNode>>, Fai
 {
     let header = &files.header;
     let count = header.parts * header.f;
-    let nodes = curp_opening::witnesses(files.alloc, count, header.sets, header.ways)?;
+    let nodes = curp_nodes::witnesses(files.alloc, count, header.sets, header.ways)?;
     let begun = numbered(files.alloc, NodeKind::Witness, nodes)?;
     let begun = with_fresh_witnesses(files, count, begun)?;
     journals_of(files, begun)

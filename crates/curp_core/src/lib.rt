@@ -112,7 +112,7 @@ pub use curp_slots::BadShape;
 
 /// All nodes of a header, as they are before any step.
 pub mod opening {
-    pub use curp_opening::{backups, clients, manager, masters, witnesses};
+    pub use curp_nodes::{backups, clients, manager, masters, witnesses};
 }
 
 /// What messages say.
@@ -136,7 +136,7 @@ pub mod journal {
 
 /// The numbers of a policy: when orders are given.
 pub mod policy {
-    pub use curp_opening::{COLLECT_AFTER, PENDING_AT_ONCE, SYNC_AFTER};
+    pub use curp_nodes::{COLLECT_AFTER, PENDING_AT_ONCE, SYNC_AFTER};
 }
 
 /// A world of nodes that takes the steps of a script.

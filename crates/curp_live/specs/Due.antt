@@ -4,7 +4,7 @@ use Rattle.curp_cmd.specs.declared.command.Command.{Command}
 use Rattle.curp_cmd.specs.declared.command.RequestId.{RequestId}
 use Rattle.curp_msg.specs.declared.machine.Local.{Local}
 use Rattle.curp_msg.specs.declared.machine.Local.TheVariants.{Collect, Invoke, Retry, Sync}
-use Rattle.curp_opening.specs.declared.policy.TheConstants.{COLLECT_AFTER, PENDING_AT_ONCE, SYNC_AFTER}
+use Rattle.curp_nodes.specs.declared.policy.TheConstants.{COLLECT_AFTER, PENDING_AT_ONCE, SYNC_AFTER}
 use Rattle.curp_seat.specs.declared.took.Took.{Took}
 use Rattle.curp_seat.specs.declared.took.Took.TheVariants.{Asks, Configuration}
 

@@ -7,7 +7,7 @@ ghost use Rattle.curp_live.specs.Due.{client_due, client_given, client_noted, ma
 use curp_base::{NoMemory, Shared};
 use curp_cmd::{Command, RequestId};
 use curp_msg::Local;
-use curp_opening::{COLLECT_AFTER, PENDING_AT_ONCE, SYNC_AFTER};
+use curp_nodes::{COLLECT_AFTER, PENDING_AT_ONCE, SYNC_AFTER};
 use curp_seat::{Chores, Took};
 use std::alloc::Global;
 use std::marker::Model;

@@ -1,3 +1,4 @@
 pub mod Machines
+pub mod Nodes
 pub mod Refusals
 pub mod Stages

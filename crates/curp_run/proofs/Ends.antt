@@ -3,7 +3,7 @@ use Rattle.std.proofs.Common.{◌≡◌, ◌∙◌, inl, inr, true, false, true�
 use Rattle.curp_runner.specs.declared.status.Status.{Status}
 use Rattle.curp_runner.specs.declared.status.Status.TheVariants as status
 use Rattle.curp_runner.specs.Status.{is_cut_short}
-use Rattle.curp_show.specs.Show.{IsOfMaking}
+use Rattle.curp_play.specs.Show.{IsOfMaking}
 
 pub making_never_asks : (s : Status) → IsOfMaking s → s ≡ status.Usage → ⊥
 making_never_asks s (inl e) is = cc

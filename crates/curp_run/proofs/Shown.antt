@@ -20,7 +20,7 @@ use Rattle.curp_gen.specs.Commands.{workload_of}
 use Rattle.curp_gen.proofs.Workloads.{length-workload}
 use Rattle.curp_anew.specs.Live.{IsLiveRun, recoveries_from, recovery_of, stops}
 use Rattle.curp_words.specs.Plan.{live_header}
-use Rattle.curp_opening.proofs.Numbers.{named_length}
+use Rattle.curp_nodes.proofs.Numbers.{named_length}
 use Rattle.curp_words.specs.declared.task.LivePlan.{LivePlan}
 use Rattle.curp_run.specs.Live.{Shows, StopsAsPlanned, work_of}
 use Rattle.curp_run.proofs.Stops.{run_prints}

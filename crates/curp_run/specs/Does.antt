@@ -19,7 +19,7 @@ use Rattle.curp_runner.specs.Check.{EndsAs, EndsJudged, IsBrokenClaim, IsJudgedP
 use Rattle.curp_resp.specs.Input.{Decomposes}
 use Rattle.curp_resp.specs.Meaning.{meaning}
 use Rattle.curp_run.specs.Live.{IsLive, IsLivePrefix}
-use Rattle.curp_show.specs.Show.{EndsMade, IsOfMaking}
+use Rattle.curp_play.specs.Show.{EndsMade, IsOfMaking}
 use Rattle.curp_script.specs.Script.{Ending, Whole}
 use Rattle.curp_session.specs.Session.{EndsSession, HoldsAnswers, ShowsReplied, commands_in, replies_of_one_thread, session, session_text}
 use Rattle.curp_words.specs.declared.task.LivePlan.{LivePlan}

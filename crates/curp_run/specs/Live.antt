@@ -26,7 +26,7 @@ use Rattle.curp_words.specs.Plan.{live_header}
 use Rattle.curp_gen.specs.Commands.{workload_of}
 use Rattle.curp_play.specs.Play.{OrderStands}
 use Rattle.curp_runner.specs.Reading.{script_in}
-use Rattle.curp_show.specs.Show.{played}
+use Rattle.curp_play.specs.Show.{played}
 
 -- the work of each client, that of client 1 first
 abbrev pub work_of : LivePlan → List (List Command)

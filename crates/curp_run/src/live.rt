@@ -1,7 +1,7 @@
 ghost use Rattle.std.specs.Prelude.{◌≡◌, true, IfOk};
 ghost use Rattle.curp_io.specs.Streaming.{TellsFault};
 ghost use Rattle.curp_run.specs.Live.{IsLive, IsLivePrefix, IsLiveText};
-ghost use Rattle.curp_show.specs.Show.{EndsMade, IsOfMaking};
+ghost use Rattle.curp_play.specs.Show.{EndsMade, IsOfMaking};
 ghost use Rattle.curp_words.specs.Plan.{IsLivePlan};
 
 mod steps;
@@ -12,7 +12,7 @@ use curp_io::Sink;
 use curp_law_print::printed_scripts_are_read;
 use curp_runner::{Status, close};
 use curp_seat::Observer;
-use curp_show::{script_text, write_played};
+use curp_play::{script_text, write_played};
 use curp_words::LivePlan;
 use std::alloc::Global;
 use std::sync::Wait;

@@ -6,7 +6,7 @@ ghost use Rattle.curp_gen.specs.Making.{after, begun, steps_from, summary_of};
 ghost use Rattle.curp_runner.specs.Reading.{script_in};
 ghost use Rattle.curp_runner.specs.Writing.{PassesOn, PutsText, WritesText};
 ghost use Rattle.curp_run.specs.Run.{ArePrintable};
-ghost use Rattle.curp_show.specs.Show.{EndsMade, IsOfMaking};
+ghost use Rattle.curp_play.specs.Show.{EndsMade, IsOfMaking};
 ghost use Rattle.curp_words.specs.Plan.{IsPlan};
 
 use curp_gen::Maker;

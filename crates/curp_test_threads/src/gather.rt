@@ -34,7 +34,7 @@ fn smallest() -> Header
 
 // The journals of the smallest header's nodes, in which nothing happened.
 fn opened(alloc: Global) -> Result<Journals, NoMemory> {
-    let manager = curp_opening::manager(alloc, &smallest())?;
+    let manager = curp_nodes::manager(alloc, &smallest())?;
     let mut journals = begun(alloc, manager);
     match open_all(alloc, &mut journals) {
         Ok(()) => Ok(journals),
@@ -55,9 +55,9 @@ fn begun(alloc: Global, manager: ManagerNode) -> Journals {
 // Adds the journals of all nodes but the manager.
 fn open_all(alloc: Global, journals: &mut Journals) -> Result<(), NoMemory> {
     open_served(alloc, &smallest(), journals)?;
-    let backups = curp_opening::backups(alloc, 1)?;
+    let backups = curp_nodes::backups(alloc, 1)?;
     open(alloc, NodeKind::Backup, backups, &mut journals.backups)?;
-    let witnesses = curp_opening::witnesses(alloc, 1, 1, 1)?;
+    let witnesses = curp_nodes::witnesses(alloc, 1, 1, 1)?;
     open(alloc, NodeKind::Witness, witnesses, &mut journals.witnesses)
 }
 
@@ -65,7 +65,7 @@ fn open_all(alloc: Global, journals: &mut Journals) -> Result<(), NoMemory> {
 fn open_served(alloc: Global, header: &Header, journals: &mut Journals) -> Result<(), NoMemory>
     requires { IsHeader header.now }
 {
-    let manager = curp_opening::manager(alloc, header)?;
+    let manager = curp_nodes::manager(alloc, header)?;
     let opened = open_with(alloc, header, manager.config(), journals);
     drop(manager);
     opened
@@ -79,9 +79,9 @@ fn open_with(
 ) -> Result<(), NoMemory>
     requires { config.now ≡ opening_config (shape_of header.now) }
 {
-    let clients = curp_opening::clients(alloc, header, config)?;
+    let clients = curp_nodes::clients(alloc, header, config)?;
     open(alloc, NodeKind::Client, clients, &mut journals.clients)?;
-    let masters = curp_opening::masters(alloc, header, config)?;
+    let masters = curp_nodes::masters(alloc, header, config)?;
     open(alloc, NodeKind::Master, masters, &mut journals.masters)
 }
 

@@ -15,7 +15,7 @@ use curp_gather::GatherError;
 use curp_io::Sink;
 use curp_law_print::printed_scripts_are_read;
 use curp_runner::Status;
-use curp_show::{script_text, write_played};
+use curp_play::{script_text, write_played};
 use std::alloc::Global;
 use std::fs::{self, File};
 use std::io::ErrorKind;

@@ -36,16 +36,16 @@ pub(crate) fn role_of(id: NodeId, header: &Header) -> Role
 pub(crate) fn client(alloc: Global, header: &Header, number: u32) -> Result<ClientNode, Ending>
     requires { IsHeader header.now }
 {
-    let manager = curp_opening::manager(alloc, header)?;
-    let mut nodes = curp_opening::clients(alloc, header, manager.config())?;
+    let manager = curp_nodes::manager(alloc, header)?;
+    let mut nodes = curp_nodes::clients(alloc, header, manager.config())?;
     opening_node(&mut nodes, number).ok_or(Ending::NoSuchClient)
 }
 
 pub(crate) fn master(alloc: Global, header: &Header, number: u32) -> Result<MasterNode, NoMemory>
     requires { IsHeader header.now }
 {
-    let manager = curp_opening::manager(alloc, header)?;
-    let mut nodes = curp_opening::masters(alloc, header, manager.config())?;
+    let manager = curp_nodes::manager(alloc, header)?;
+    let mut nodes = curp_nodes::masters(alloc, header, manager.config())?;
     let opening = opening_node(&mut nodes, number);
     Ok(opening.unwrap_or(MasterNode::fresh(alloc, number)))
 }
@@ -53,7 +53,7 @@ pub(crate) fn master(alloc: Global, header: &Header, number: u32) -> Result<Mast
 pub(crate) fn backup(alloc: Global, header: &Header, number: u32) -> Result<BackupNode, NoMemory>
     requires { IsHeader header.now }
 {
-    let mut nodes = curp_opening::backups(alloc, header.parts * header.f)?;
+    let mut nodes = curp_nodes::backups(alloc, header.parts * header.f)?;
     let opening = opening_node(&mut nodes, number);
     Ok(opening.unwrap_or(BackupNode::fresh(alloc, number)))
 }
@@ -62,7 +62,7 @@ pub(crate) fn witness(alloc: Global, header: &Header, number: u32) -> Result<Wit
     requires { IsHeader header.now }
 {
     let count = header.parts * header.f;
-    let mut nodes = curp_opening::witnesses(alloc, count, header.sets, header.ways)?;
+    let mut nodes = curp_nodes::witnesses(alloc, count, header.sets, header.ways)?;
     if let Some(opening) = opening_node(&mut nodes, number) {
         return Ok(opening);
     }

@@ -45,7 +45,7 @@ pub(crate) fn run_node<S: Source, K: Sink>(
     let disk = FileDisk::open(rt, seat.journal)?;
     match seat.node.kind {
         NodeKind::Manager => {
-            let node = curp_opening::manager(alloc, header)?;
+            let node = curp_nodes::manager(alloc, header)?;
             run(alloc, seat, disk, node, source, sink)
         }
         NodeKind::Client => run_client(alloc, seat, disk, source, sink),

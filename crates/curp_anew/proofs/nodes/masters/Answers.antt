@@ -1,5 +1,5 @@
 use Rattle.curp_model.specs.World.{opening_master, shape_of}
-use Rattle.curp_opening.proofs.Numbers.{named_length}
+use Rattle.curp_nodes.proofs.Numbers.{named_length}
 use Rattle.curp_anew.proofs.Counts.{long_states}
 use Rattle.curp_anew.proofs.nodes.masters.Goals as goal
 

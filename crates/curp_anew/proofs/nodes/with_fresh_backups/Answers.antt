@@ -1,5 +1,5 @@
 use Rattle.curp_model.specs.Backup.{fresh_backup}
-use Rattle.curp_opening.specs.Nodes.{states}
+use Rattle.curp_nodes.specs.Nodes.{states}
 use Rattle.curp_anew.proofs.Fresh.{fresh_more, none_fresh}
 use Rattle.curp_anew.proofs.nodes.with_fresh_backups.Goals as goal
 

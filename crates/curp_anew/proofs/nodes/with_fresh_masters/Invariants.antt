@@ -1,5 +1,5 @@
 use Rattle.curp_model.specs.Recovery.{Fresh}
-use Rattle.curp_opening.specs.Nodes.{states}
+use Rattle.curp_nodes.specs.Nodes.{states}
 use Rattle.curp_anew.proofs.Fresh.{AreFresh}
 use Rattle.curp_anew.proofs.nodes.with_fresh_masters.Given as goal
 

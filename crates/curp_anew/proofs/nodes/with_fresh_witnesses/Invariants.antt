@@ -1,5 +1,5 @@
 use Rattle.curp_model.specs.Witness.{fresh_witness}
-use Rattle.curp_opening.specs.Nodes.{states}
+use Rattle.curp_nodes.specs.Nodes.{states}
 use Rattle.curp_anew.proofs.Fresh.{AreFresh}
 use Rattle.curp_anew.proofs.nodes.with_fresh_witnesses.Given as goal
 

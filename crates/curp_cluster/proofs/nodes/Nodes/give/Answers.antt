@@ -12,7 +12,7 @@ use Rattle.curp_msg.specs.Input.{input_of}
 use Rattle.curp_cluster.specs.Nodes.{NodeStates}
 use Rattle.curp_cluster.specs.contracts.nodes.Nodes.{the_view}
 use Rattle.curp_cluster.proofs.Giving.{in_range, vec_moves}
-use Rattle.curp_opening.proofs.Additions.{ahead_numbers}
+use Rattle.curp_nodes.proofs.Additions.{ahead_numbers}
 use Rattle.curp_cluster.proofs.ByKind.{backup_keeps, backups_give, client_keeps, clients_give, few_elsewhere, is_here, master_keeps, masters_few, masters_give, seen_few, seen_moves, witness_keeps, witnesses_give}
 use Rattle.curp_cluster.proofs.nodes.Nodes.give.Goals as goal
 

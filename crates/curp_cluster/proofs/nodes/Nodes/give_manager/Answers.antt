@@ -8,11 +8,11 @@ use Rattle.curp_model.specs.Witness.{WitnessState, fresh_witness}
 use Rattle.curp_model.specs.World.{grown, moves}
 use Rattle.curp_msg.specs.Moved.{Moves, Node, within}
 use Rattle.curp_msg.specs.Input.{input_of}
-use Rattle.curp_opening.specs.Nodes.{IsAhead, states}
+use Rattle.curp_nodes.specs.Nodes.{IsAhead, states}
 use Rattle.curp_cluster.specs.Nodes.{NodeStates, most_fresh, nodes_of, with_nodes}
 use Rattle.curp_cluster.specs.contracts.nodes.Nodes.{the_view}
 use Rattle.curp_cluster.proofs.ByKind.{grew, made_grows, manager_gives, none_came}
-use Rattle.curp_opening.proofs.Additions.{taken_up}
+use Rattle.curp_nodes.proofs.Additions.{taken_up}
 use Rattle.curp_cluster.proofs.nodes.Nodes.give_manager.Goals as goal
 
 -- ---- room for those that come

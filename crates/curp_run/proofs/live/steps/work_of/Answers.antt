@@ -3,7 +3,7 @@ use Rattle.std.proofs.lemmas.List.{map-append}
 use Rattle.curp_base.specs.Words.{numbers_from}
 use Rattle.curp_cmd.specs.declared.command.Command.{Command}
 use Rattle.curp_gen.specs.Commands.{workload_of}
-use Rattle.curp_opening.proofs.Numbers.{named_push}
+use Rattle.curp_nodes.proofs.Numbers.{named_push}
 use Rattle.curp_run.proofs.Runs.{work_length}
 use Rattle.curp_run.proofs.live.steps.work_of.Goals as goal
 
