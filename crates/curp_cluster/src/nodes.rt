@@ -15,8 +15,8 @@ use crate::growing::most_fresh;
 use curp_base::NoMemory;
 use curp_cmd::{NodeId, NodeKind};
 use curp_msg::{Done, Header, Input};
-use curp_nodes::{BackupNode, ClientNode, ManagerNode, MasterNode, WitnessNode};
 use curp_nodes::growing::{add_backups, add_masters, make_ahead, take_up};
+use curp_nodes::{BackupNode, ClientNode, ManagerNode, MasterNode, WitnessNode};
 use std::alloc::Global;
 use std::marker::Model;
 

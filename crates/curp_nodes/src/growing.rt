@@ -6,8 +6,8 @@ ghost use Rattle.curp_model.specs.Witness.{fresh_witness};
 ghost use Rattle.curp_model.specs.World.{grown};
 ghost use Rattle.curp_nodes.specs.Nodes.{HasNumbers, IsAhead, states};
 
-use curp_base::NoMemory;
 use crate::{BackupNode, MasterNode, WitnessNode};
+use curp_base::NoMemory;
 use curp_slots::BadShape;
 use std::alloc::{AllocError, Global};
 

@@ -8,10 +8,10 @@ ghost use Rattle.curp_model.specs.Witness.{started_witness};
 ghost use Rattle.curp_model.specs.World.{opening_master, shape_of};
 ghost use Rattle.curp_nodes.specs.Nodes.{HasNumbers, begins, states};
 
+use crate::{BackupNode, ClientNode, ManagerNode, MasterNode, WitnessNode};
 use curp_base::{Failed, NoMemory};
 use curp_changes::{Shape, opening_hashes};
 use curp_msg::{Config, Header, PartConfig};
-use crate::{BackupNode, ClientNode, ManagerNode, MasterNode, WitnessNode};
 use curp_slots::BadShape;
 use std::alloc::{AllocError, Global};
 

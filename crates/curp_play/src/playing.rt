@@ -8,8 +8,8 @@ ghost use Rattle.curp_runner.specs.Writing.{PutsText};
 ghost use Rattle.curp_script.specs.Script.{Whole};
 ghost use Rattle.curp_play.specs.Show.{EndsMade, IsOfMaking, played};
 
-use curp_io::{Sink, SureSource};
 use crate::play_script;
+use curp_io::{Sink, SureSource};
 use curp_runner::{Status, close, write};
 use std::alloc::Global;
 

@@ -27,7 +27,10 @@ pub(crate) fn write_ask<W: fmt::Write>(
     )
 }
 
-pub(crate) fn write_record<W: fmt::Write>(f: &mut fmt::Formatter<W>, recorded: &Record) -> fmt::Result
+pub(crate) fn write_record<W: fmt::Write>(
+    f: &mut fmt::Formatter<W>,
+    recorded: &Record,
+) -> fmt::Result
     ensures { WritesOnOk W.write_str_gives f.old result (body_text (body.Record recorded.now)) f.new }
 {
     write!(
