@@ -9,11 +9,7 @@ use Rattle.std.proofs.lemmas.Option.{get_or_from_slice_get}
 use Rattle.curp_base.specs.Words.{At, Each}
 use Rattle.curp_base.proofs.Lists.{Each-append, Each-drop, Each-filter, Each-take, at_within}
 use Rattle.curp_journal.specs.Journal.{NodeJournal}
-use Rattle.curp_msg.specs.declared.script.Header.{Header}
-use Rattle.curp_gather.specs.declared.journals.Journals.{Journals}
-use Rattle.curp_words.specs.declared.task.LivePlan.{LivePlan}
-use Rattle.curp_anew.specs.Live.{AllEndAsPlanned, EndsAsPlanned}
-use Rattle.curp_anew.specs.Opening.{AreHandedOut, all_handed_out, handed_out, took_something}
+use Rattle.curp_anew.specs.Opening.{all_handed_out, handed_out, took_something}
 
 -- where all are there, all are handed out
 pub handed_whole : {N : Type 0} (there : ℕ) (logs : List (NodeJournal N)) → length logs ≤ there → all_handed_out there logs ≡ logs
@@ -57,12 +53,3 @@ pub each_handed : {N : Type 0} (P : NodeJournal N → Type 0) (there : ℕ) (log
 each_handed P there logs each =
     Each-append P (take there logs) (filter took_something (drop there logs)) (Each-take P there logs each)
     (Each-filter P took_something (drop there logs) (Each-drop P there logs each))
-
--- those that are handed out end as planned where those that were taken do
-pub ends_handed : (plan : LivePlan) (h : Header) (taken journals : Journals) → AreHandedOut h taken journals → AllEndAsPlanned plan taken → AllEndAsPlanned plan journals
-ends_handed plan h taken journals are ends = record {
-  clients = subst (λ logs. Each (EndsAsPlanned plan) logs) (sym are.clients) ends.clients;
-  masters = subst (λ logs. Each (EndsAsPlanned plan) logs) (sym are.masters) (each_handed (EndsAsPlanned plan) h.parts taken.masters.items ends.masters);
-  backups = subst (λ logs. Each (EndsAsPlanned plan) logs) (sym are.backups) (each_handed (EndsAsPlanned plan) (h.parts * h.f) taken.backups.items ends.backups);
-  witnesses = subst (λ logs. Each (EndsAsPlanned plan) logs) (sym are.witnesses) (each_handed (EndsAsPlanned plan) (h.parts * h.f) taken.witnesses.items ends.witnesses);
-}

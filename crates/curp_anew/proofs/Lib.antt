@@ -1,9 +1,6 @@
-mod Begun
-mod Counts
+pub mod Counts
 mod Fresh
-mod Handed
+pub mod Handed
 mod Pairs
 mod Pendings
-mod Recovering
-mod Runs
 mod Scans

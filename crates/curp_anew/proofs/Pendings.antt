@@ -3,7 +3,7 @@ use Rattle.std.proofs.Common.{◌≡◌, ◌+◌, ◌≤◌, ℕ, zero, suc, if�
 use Rattle.std.proofs.Math.Seq.{drop-cons}
 use Rattle.curp_journal.specs.declared.item.Item.{Item}
 use Rattle.curp_journal.specs.Work.{invoked_by, invoked_in}
-use Rattle.curp_anew.specs.Live.{completed_count, most_pending}
+use Rattle.curp_anew.specs.Work.{completed_count, most_pending}
 
 -- so many were invoked and completed before
 abbrev pub FewFrom : ℕ → ℕ → List Item → Type 0

@@ -2,10 +2,8 @@
 use Rattle.std.specs.Prelude.{◌≡◌, ◌⊎◌, ◌+◌, ◌*◌, ◌<◌, ◌≤◌, ltb, ℕ, Bool, true, false, not, nat_eq, List, [], ◌∷◌, ◌++◌, length, min, replicate, take, drop}
 use Rattle.std.specs.List.{filter}
 use Rattle.curp_base.specs.Words.{At, Each}
-use Rattle.curp_cmd.specs.Node.{manager_node}
 use Rattle.curp_cmd.specs.declared.node.NodeId.{NodeId}
 use Rattle.curp_cmd.specs.declared.node.NodeKind.{NodeKind}
-use Rattle.curp_cmd.specs.declared.node.NodeKind.TheVariants as kind
 use Rattle.curp_msg.specs.declared.script.Header.{Header}
 use Rattle.curp_journal.specs.Journal.{NodeJournal}
 use Rattle.curp_journal.specs.declared.item.Item.{Item}
@@ -16,7 +14,6 @@ use Rattle.curp_model.specs.World.{opening}
 use Rattle.curp_law_weave.specs.Run.{TakesFirst}
 use Rattle.curp_journal.specs.Own.{IsOwn}
 use Rattle.curp_nodes.specs.Nodes.{HasNumbers, states}
-use Rattle.curp_gather.specs.declared.journals.Journals.{Journals}
 use Rattle.curp_anew.specs.declared.nodes.LiveNodes.{LiveNodes}
 
 -- the nodes of a header's world before any step, and behind them the fresh ones of so many recoveries
@@ -80,17 +77,6 @@ pub record AreAnew {N : Type 0} (kind : NodeKind) (there : ℕ) (nodes : List N)
   pub rise : NamesRise logs
   pub whole : HaveJournals (min (length nodes) there) logs
 
--- the journals of all nodes of a header's world, begun before any step, and of the fresh ones of so many recoveries
-pub record AreAllAnew (h : Header) (recoveries : ℕ) (journals : Journals) : Type 0 where
-  pub nodes : LiveNodes
-  pub opening : IsOpening h recoveries nodes
-  pub manager : IsAnew manager_node nodes.manager journals.manager
-  pub runs : journals.manager.ended ≡ false
-  pub clients : AreAnew kind.Client h.clients nodes.clients.items journals.clients.items
-  pub masters : AreAnew kind.Master h.parts nodes.masters.items journals.masters.items
-  pub backups : AreAnew kind.Backup (h.parts * h.f) nodes.backups.items journals.backups.items
-  pub witnesses : AreAnew kind.Witness (h.parts * h.f) nodes.witnesses.items journals.witnesses.items
-
 -- ---- journals as they were taken
 
 -- a journal was taken of that node, begun in that state; one that isn't there before any step took nothing, or a message
@@ -117,24 +103,3 @@ handed_out false log = filter took_something (log ∷ [])
 -- and of journals of which the first so many are of nodes that are there: these, and of the others those that took something
 abbrev pub all_handed_out : {N : Type 0} → ℕ → List (NodeJournal N) → List (NodeJournal N)
 all_handed_out there logs = take there logs ++ filter took_something (drop there logs)
-
--- the journals that are handed out for those that were taken; all clients are there before any step
-pub record AreHandedOut (h : Header) (taken journals : Journals) : Type 0 where
-  pub manager : journals.manager ≡ taken.manager
-  pub clients : journals.clients.items ≡ taken.clients.items
-  pub masters : journals.masters.items ≡ all_handed_out h.parts taken.masters.items
-  pub backups : journals.backups.items ≡ all_handed_out (h.parts * h.f) taken.backups.items
-  pub witnesses : journals.witnesses.items ≡ all_handed_out (h.parts * h.f) taken.witnesses.items
-
--- one was taken of each node
-pub record AreTakenOf (h : Header) (nodes : LiveNodes) (journals : Journals) : Type 0 where
-  pub manager : IsAnew manager_node nodes.manager journals.manager
-  pub runs : journals.manager.ended ≡ false
-  pub clients : AreTaken kind.Client h.clients nodes.clients.items journals.clients.items
-  pub masters : AreTaken kind.Master h.parts nodes.masters.items journals.masters.items
-  pub backups : AreTaken kind.Backup (h.parts * h.f) nodes.backups.items journals.backups.items
-  pub witnesses : AreTaken kind.Witness (h.parts * h.f) nodes.witnesses.items journals.witnesses.items
-
--- one was taken of each node of a header's world and of each fresh node of so many recoveries, from before any step on
-abbrev pub AreAllTaken : Header → ℕ → Journals → Type 0
-AreAllTaken h recoveries journals = (nodes : LiveNodes) → IsOpening h recoveries nodes → AreTakenOf h nodes journals

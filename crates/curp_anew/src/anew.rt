@@ -12,7 +12,7 @@ use std::alloc::Global;
 
 /// The nodes of a kind, of which so many are there before any step and the others are fresh, and the journals that were
 /// taken of them.
-pub(crate) type OfKind<N> = (NodeKind, usize, Vec<N>, Vec<Kept<N>>);
+pub type OfKind<N> = (NodeKind, usize, Vec<N>, Vec<Kept<N>>);
 
 /// The same journals of nodes of a kind, begun with these nodes. One of a fresh node that took nothing is left out.
 /// None where one isn't that of a node.

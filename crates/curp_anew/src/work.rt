@@ -2,7 +2,7 @@ ghost use Rattle.std.specs.Prelude.{◌≡◌, ◌≢◌, ◌↔◌, ℕ, List, 
 ghost use Rattle.curp_base.specs.Words.{Each};
 ghost use Rattle.curp_cmd.specs.declared.command.Command.{Command};
 ghost use Rattle.curp_journal.specs.Work.{DidWork, IsCompletedIn, invoked_by, invoked_in};
-ghost use Rattle.curp_anew.specs.Live.{DidInOrder, FewPending};
+ghost use Rattle.curp_anew.specs.Work.{DidInOrder, FewPending};
 
 use curp_cmd::{Command, RequestId};
 use curp_journal::{Arrived, Item};
@@ -12,7 +12,7 @@ use curp_same::Same;
 use curp_seat::Kept;
 
 /// Whether each client did its list of work; the first has the number 1.
-pub(crate) fn did_all(work: &[Vec<Command>], clients: &[Kept<ClientNode>]) -> bool
+pub fn did_all(work: &[Vec<Command>], clients: &[Kept<ClientNode>]) -> bool
     requires { length work.now + 1 < 2 ^ 32 }
     ensures did { IsTrue result → DidInOrder (map (λ list. list.items) work.now) clients.now }
     ensures all { Each (λ list. length list.items < 2 ^ 32) work.now
@@ -101,7 +101,7 @@ fn is_completed(items: &[Item], id: RequestId) -> bool
 }
 
 /// Whether each client never has more than so few requests pending.
-pub(crate) fn all_have_few_pending(clients: &[Kept<ClientNode>]) -> bool
+pub fn all_have_few_pending(clients: &[Kept<ClientNode>]) -> bool
     ensures { IsTrue result ↔ Each (λ log. FewPending log.items) clients.now }
 {
     for client in clients {

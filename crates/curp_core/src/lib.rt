@@ -57,7 +57,7 @@
 //! order has as `refused`. A node behind a journal takes orders alone.
 //!
 //! The nodes have no policy of their own. That of `curp live` has its numbers in `policy`, and its code in
-//! `curp_live/src/chores.rt`: a client has at most `PENDING_AT_ONCE` requests pending, and retries all of them in order
+//! `curp_due/src/chores.rt`: a client has at most `PENDING_AT_ONCE` requests pending, and retries all of them in order
 //! after each configuration; a master is ordered `Sync` after each `SYNC_AFTER` updates and syncs that come, and behind it
 //! `Collect` after each `COLLECT_AFTER`. Clients are ordered `Fetch` once a recovered master serves.
 //!

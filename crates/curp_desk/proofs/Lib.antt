@@ -1,2 +1,1 @@
 pub mod Outboxes
-pub mod Places

@@ -1,10 +1,8 @@
 ghost use Rattle.std.specs.Prelude.{◌≤◌};
 
-use crate::Posts;
-use crate::inboxes::Inboxes;
 use curp_base::NoMemory;
 use curp_cmd::NodeId;
-use curp_ruled::Take;
+use curp_ruled::{Inboxes, Posts, Take};
 use std::alloc::{AllocError, Global};
 use std::sync::{Mutex, Wait};
 use std::thread;

@@ -1,11 +1,11 @@
 ghost use Rattle.std.specs.Prelude.{◌≡◌, ◌≢◌, false, None};
 
 use crate::inside::{Inside, Out};
-use crate::{Listener, MadeStep, Posts};
+use crate::{Listener, MadeStep};
 use curp_base::NoMemory;
 use curp_journal::Arrived;
 use curp_msg::Core;
-use curp_ruled::{Envelope, Take};
+use curp_ruled::{Envelope, Posts, Take};
 use curp_seat::{Chores, Kept, Observer};
 use std::alloc::Global;
 use std::sync::{Condvar, Mutex, Wait};

@@ -7,22 +7,15 @@
 //! - A node has a worker, who takes envelopes from the inbox and makes steps, those that its `Chores` order among them, and
 //!   a courier, who sends what they put out. A worker never sends, and no lock is held over a send, a receive or a wait for
 //!   another thread; so full inboxes can't make all threads wait for each other, by whatever room they have.
-//! - `Posts` are all posts of one sender, seen with what each sent and whether it is used up. What `send` and `end` do is
-//!   exact: an envelope goes through no other post than that of its node. Each gets exactly one end, as its last envelope:
-//!   sending it uses the post up.
 //! - `run_crew` runs nodes with an inbox for each: workers and couriers on threads of their own, the driver on the calling
 //!   one. Where a thread can't be made, those that were made get the ends that they wait for.
 #![tactic(auto)]
 
 mod crew;
 mod desk;
-mod inboxes;
 mod inside;
 mod listener;
-mod posts;
 
 pub use crew::{Carry, Drive, Member, Serve, run_crew};
 pub use desk::Desk;
-pub use inboxes::ROOM;
 pub use listener::{Listener, MadeStep};
-pub use posts::Posts;

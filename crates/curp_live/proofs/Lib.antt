@@ -1,2 +1,3 @@
-mod Due
-mod Driven
+mod Begun
+mod Ends
+mod Runs

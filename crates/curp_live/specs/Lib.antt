@@ -1,3 +1,3 @@
-pub mod Driving
-pub mod Due
 pub mod Judging
+pub mod Live
+pub mod Taken

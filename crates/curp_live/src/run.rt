@@ -1,15 +1,15 @@
 ghost use Rattle.std.specs.Prelude.{◌≡◌, ◌≤◌, ◌<◌, ◌^◌, length, map, None, Ok, IfOk, IfSome};
 ghost use Rattle.curp_base.specs.Words.{Each};
-ghost use Rattle.curp_anew.specs.Live.{IsLiveRun};
 ghost use Rattle.curp_live.specs.Judging.{IsRuledRun};
+ghost use Rattle.curp_live.specs.Live.{IsLiveRun};
 ghost use Rattle.curp_words.specs.Plan.{IsLivePlan};
 
+use crate::checking::checked;
 use crate::once::once;
-use curp_anew::checked;
 use curp_base::NoMemory;
 use curp_cmd::Command;
-use curp_desk::ROOM;
 use curp_gather::{Journals, Ruled};
+use curp_ruled::ROOM;
 use curp_seat::Observer;
 use curp_words::LivePlan;
 use std::alloc::Global;

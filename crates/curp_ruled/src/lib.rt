@@ -9,16 +9,24 @@
 //!   of what it sent (`prefix`), and nothing else was taken (`no_other`).
 //! - An `Envelope` is seen as its sender's number and the input that it carries, or none at the sender's end. It holds a
 //!   message as a `Framed`.
+//! - `Posts` are all posts of one sender, seen with what each sent and whether it is used up. What `send` and `end` do is
+//!   exact: an envelope goes through no other post than that of its node. Each gets exactly one end, as its last envelope:
+//!   sending it uses the post up.
+//! - `Inboxes` are the inboxes of all nodes of a run, with the posts of each node and of its driver.
 #![tactic(auto)]
 
 mod calls;
 mod closing;
 mod ends;
 mod envelope;
+mod inboxes;
 mod opening;
+mod posts;
 mod rule;
 
 pub use closing::close;
 pub use ends::{Closed, Post, Take};
 pub use envelope::Envelope;
+pub use inboxes::{Inboxes, ROOM};
 pub use opening::inbox;
+pub use posts::Posts;

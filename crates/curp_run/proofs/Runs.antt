@@ -10,7 +10,7 @@ use Rattle.curp_words.specs.declared.task.LivePlan.{LivePlan}
 use Rattle.curp_gather.specs.Journals.{IsScriptOf, journals_of}
 use Rattle.curp_gather.specs.declared.journals.Journals.{Journals}
 use Rattle.curp_gen.specs.Commands.{workload_of}
-use Rattle.curp_anew.specs.Live.{IsLiveRun}
+use Rattle.curp_live.specs.Live.{IsLiveRun}
 use Rattle.curp_nodes.proofs.Numbers.{named_length}
 use Rattle.curp_run.specs.Live.{Shows, work_of}
 use Rattle.curp_run.proofs.Shown.{shown}

@@ -18,7 +18,8 @@ use Rattle.curp_gather.specs.Journals.{IsClientJournal, IsScriptOf, journal_of, 
 use Rattle.curp_gather.specs.declared.journals.Journals.{Journals}
 use Rattle.curp_gen.specs.Commands.{workload_of}
 use Rattle.curp_gen.proofs.Workloads.{length-workload}
-use Rattle.curp_anew.specs.Live.{IsLiveRun, recoveries_from, recovery_of, stops}
+use Rattle.curp_due.specs.Recoveries.{recoveries_from, recovery_of, stops}
+use Rattle.curp_live.specs.Live.{IsLiveRun}
 use Rattle.curp_words.specs.Plan.{live_header}
 use Rattle.curp_nodes.proofs.Numbers.{named_length}
 use Rattle.curp_words.specs.declared.task.LivePlan.{LivePlan}

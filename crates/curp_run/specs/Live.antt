@@ -15,7 +15,8 @@ use Rattle.curp_journal.specs.Turns.{Journal}
 use Rattle.curp_journal.specs.Work.{invocations, orders_to, recoveries}
 use Rattle.curp_gather.specs.Journals.{journals_of}
 use Rattle.curp_gather.specs.declared.journals.Journals.{Journals}
-use Rattle.curp_anew.specs.Live.{IsLiveRun, recoveries_from, stops}
+use Rattle.curp_due.specs.Recoveries.{recoveries_from, stops}
+use Rattle.curp_live.specs.Live.{IsLiveRun}
 use Rattle.curp_merge.specs.Held.{AllHeld}
 use Rattle.curp_merge.specs.Merging.{turn_count, weight_sent}
 use Rattle.curp_gather.specs.Causes.{IsRuledCause}

@@ -1,6 +1,6 @@
 use Rattle.std.proofs.Common.{◌↔◌, drop}
 use Rattle.curp_base.specs.Words.{Each}
-use Rattle.curp_anew.specs.Live.{FewPending}
+use Rattle.curp_anew.specs.Work.{FewPending}
 use Rattle.curp_anew.proofs.work.all_have_few_pending.Given as goal
 
 -- all have just where those that are left have

@@ -1,5 +1,5 @@
 use Rattle.std.proofs.Common.{◌↔◌, ◌+◌, ◌≤◌, drop}
-use Rattle.curp_anew.specs.Live.{FewPending, most_pending}
+use Rattle.curp_anew.specs.Work.{FewPending, most_pending}
 use Rattle.curp_anew.proofs.Pendings.{FewFrom}
 use Rattle.curp_anew.proofs.work.has_few_pending.Given as goal
 

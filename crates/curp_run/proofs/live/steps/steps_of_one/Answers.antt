@@ -1,7 +1,7 @@
 use Rattle.std.proofs.Common.{List, subst}
 use Rattle.curp_cmd.specs.declared.command.Command.{Command}
 use Rattle.curp_gather.specs.Journals.{IsScriptOf, journals_of}
-use Rattle.curp_anew.specs.Live.{IsLiveRun}
+use Rattle.curp_live.specs.Live.{IsLiveRun}
 use Rattle.curp_run.specs.Live.{Shows}
 use Rattle.curp_run.proofs.Runs.{if_found, run_shows}
 use Rattle.curp_run.proofs.live.steps.steps_of_one.Goals as goal

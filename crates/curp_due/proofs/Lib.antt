@@ -1,0 +1,3 @@
+mod Driven
+mod Due
+mod Recovering

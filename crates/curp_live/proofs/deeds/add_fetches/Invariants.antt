@@ -1,8 +1,0 @@
-use Rattle.std.proofs.Common.{◌≡◌, ◌++◌, map}
-use Rattle.curp_base.specs.Words.{numbers_from}
-use Rattle.curp_live.specs.Driving.{fetch_by}
-use Rattle.curp_live.proofs.deeds.add_fetches.Given as goal
-
--- so many clients are told
-abbrev pub invariant-loop-before : goal.invariant-loop-before
-invariant-loop-before l = l.deeds.items ≡ l.fn.deeds.items ++ map fetch_by (numbers_from 1 l.before)
