@@ -1,25 +1,13 @@
 -- How a run of the program ends.
-use Rattle.std.specs.Prelude.{Option, List, String, drop, map, string_bytes}
-use Rattle.std.specs.declared.alloc.Global.{Global}
+use Rattle.std.specs.Prelude.{List}
 use Rattle.std.specs.declared.io.ErrorKind.{ErrorKind}
 use Rattle.std.specs.declared.io.ErrorKind.TheVariants as kind
-use Rattle.clap.specs.Walk.{Text}
 use Rattle.curp_base.specs.Words.{Each}
 use Rattle.curp_law_print.specs.Ranges.{StepInRange}
 use Rattle.curp_msg.specs.declared.script.Step.{Step}
 use Rattle.curp_runner.specs.declared.status.Status.{Status}
 use Rattle.curp_runner.specs.declared.status.Status.TheVariants as status
 use Rattle.curp_script.specs.Printed.{NamesNode}
-use Rattle.curp_words.specs.Words.{task_in}
-use Rattle.curp_words.specs.declared.task.Task.{Task}
-
--- the words behind the program's name, which is the first of its arguments
-abbrev pub words_of : List (String Global) → List Text
-words_of arguments = map string_bytes (drop 1 arguments)
-
--- what the arguments of the program ask for
-abbrev pub asked : List (String Global) → Option Task
-asked arguments = task_in (words_of arguments)
 
 -- words that are no text are no command line; any other error of reading them is running out of memory
 abbrev pub unread_words : ErrorKind → Status

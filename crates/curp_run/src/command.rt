@@ -1,12 +1,11 @@
 ghost use Rattle.std.specs.Prelude.{◌≡◌, None, Some};
 ghost use Rattle.curp_io.specs.Streaming.{took_of, wrote_of};
 ghost use Rattle.curp_run.specs.Does.{DoesRun};
-ghost use Rattle.curp_run.specs.Run.{asked};
+ghost use Rattle.curp_words.specs.Arguments.{asked};
 ghost use Rattle.curp_words.specs.declared.task.LivePlan.{LivePlan};
 ghost use Rattle.curp_words.specs.declared.task.MakePlan.{MakePlan};
 ghost use Rattle.curp_words.specs.declared.task.Output.{Output};
 
-use crate::arguments::task_of;
 use crate::live::live_script;
 use crate::script::make_script;
 use curp_base::Failed;
@@ -17,7 +16,7 @@ use curp_runner::{Status, check_claim};
 use curp_seat::Observer;
 use curp_session::answer_requests;
 use curp_session::laws::sessions_are_of_one_thread;
-use curp_words::{Report, Task, Usage};
+use curp_words::{Report, Task, Usage, task_of};
 use std::alloc::Global;
 use std::sync::Wait;
 use std::thread::Threads;

@@ -9,16 +9,14 @@
 //! the status; `start` is the same for the arguments of the process and the standard streams.
 #![tactic(auto)]
 
-mod arguments;
 mod command;
 mod complaints;
-mod help;
 mod live;
 mod process;
 mod script;
 
 pub use command::run;
-pub use complaints::{Blame, Complaints, complaints_of};
+pub use complaints::{Complaints, complaints_of};
 pub use live::live_script;
 pub use process::{run_to_end, start};
 pub use script::make_script;

@@ -10,7 +10,7 @@ use std::alloc::{AllocError, Global};
 
 /// The place of the word that it is about where words are no command line, counted from 0: the first with which no
 /// command line can begin. Without one something is missing at the end.
-pub fn blamed(alloc: Global, words: &[&str]) -> Result<Option<usize>, NoMemory>
+pub(crate) fn blamed(alloc: Global, words: &[&str]) -> Result<Option<usize>, NoMemory>
     ensures { IfOk result (IsBlamed (texts words.now)) }
 {
     for place in 0..words.len() {

@@ -6,11 +6,16 @@
 //! takes exactly what `given_by` says with its options, with the same values, is proved once for any options, over what
 //! the kit's port states of simple commands (`proofs/Walks.antt`, `proofs/Parses.antt`; `proofs/Tasks.antt` has the
 //! three words). `play`, alone or with `--history`, `check`, `manage`, empty words, `--`, and words that begin with one
-//! hyphen are decided before the parser. `blamed`: the first word with which no command line can begin, or none where
-//! something is missing at the end.
+//! hyphen are decided before the parser. `task_of` reads the words behind the program's name.
+//!
+//! `blame_of` gives what is wrong with words that are no command line as a value: the first word with which none can begin,
+//! or that something is missing at the end. It prints as a line (`Blame`), or as a page for people who ask what the program
+//! can do. `write_options` writes the line on the options that there are.
 #![tactic(auto)]
 
+mod arguments;
 mod blame;
+mod help;
 mod live;
 mod make;
 mod options;
@@ -18,7 +23,9 @@ mod resp;
 mod setting;
 mod task;
 mod words;
+mod wrong_words;
 
-pub use blame::blamed;
+pub use arguments::task_of;
 pub use task::{LivePlan, MakePlan, Output, Report, RespOutput, RespPlan, Task, Usage};
 pub use words::read;
+pub use wrong_words::{Blame, blame_of, write_options};

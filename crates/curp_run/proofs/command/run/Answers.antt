@@ -3,7 +3,7 @@ use Rattle.curp_io.specs.Streaming.{took_of, wrote_of}
 use Rattle.curp_run.proofs.Ends.{making_never_asks, making_never_reads, making_whole}
 use Rattle.curp_run.proofs.Nothing.{nothing_done}
 use Rattle.curp_run.specs.Does.{DoesAsked}
-use Rattle.curp_run.specs.Run.{asked}
+use Rattle.curp_words.specs.Arguments.{asked}
 use Rattle.curp_words.specs.declared.task.Report.TheVariants.{Steps, History}
 use Rattle.curp_words.specs.declared.task.Task.{Task}
 use Rattle.curp_words.specs.declared.task.Task.TheVariants.{Play, Live, Manage}

@@ -4,8 +4,8 @@ use Rattle.std.proofs.Output.{has_written_of_eq}
 use Rattle.std.proofs.lemmas.Iterator.{YieldsList-from_chars}
 use Rattle.std.proofs.lemmas.Iterator.Consumers.{YieldsList-end}
 use Rattle.std.proofs.lemmas.List.{map-id}
-use Rattle.curp_run.specs.Complaints.{shown_char}
-use Rattle.curp_run.proofs.complaints.write_shown.Goals as goal
+use Rattle.curp_words.specs.WrongWords.{shown_char}
+use Rattle.curp_words.proofs.wrong_words.write_shown.Goals as goal
 
 pub returns : goal.returns
 returns g c =

@@ -2,7 +2,7 @@
 ghost use Rattle.std.specs.Prelude.{◌≡◌};
 ghost use Rattle.std.specs.Fmt.{WritesOnOk};
 ghost use Rattle.clap.specs.Walk.{texts};
-ghost use Rattle.curp_run.specs.Help.{asks_for_help, help_text};
+ghost use Rattle.curp_words.specs.Help.{asks_for_help, help_text};
 
 use std::fmt;
 

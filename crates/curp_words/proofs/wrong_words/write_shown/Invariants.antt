@@ -1,7 +1,7 @@
 use Rattle.std.specs.List.{flat_map}
 use Rattle.std.specs.Fmt.{HasWritten, IsPlainFormatter}
-use Rattle.curp_run.specs.Complaints.{shown_char}
-use Rattle.curp_run.proofs.complaints.write_shown.Given as goal
+use Rattle.curp_words.specs.WrongWords.{shown_char}
+use Rattle.curp_words.proofs.wrong_words.write_shown.Given as goal
 
 -- the characters so far are written
 abbrev pub invariant-loop-c : goal.invariant-loop-c

@@ -1,10 +1,11 @@
 ghost use Rattle.std.specs.Prelude.{◌≡◌, ◌⊎◌, Some, None, Err, IfOk};
 ghost use Rattle.clap.specs.Walk.{texts};
-ghost use Rattle.curp_run.specs.Run.{asked, words_of};
+ghost use Rattle.curp_words.specs.Arguments.{asked, words_of};
 ghost use Rattle.curp_words.specs.Plan.{fits};
 
+use crate::task::{Task, Usage};
+use crate::words::read;
 use curp_base::{Failed, NoMemory, past};
-use curp_words::{Task, Usage, read};
 use std::alloc::Global;
 
 /// The words behind the program's name, which is the first argument.
@@ -20,7 +21,7 @@ pub(crate) fn words_in(alloc: Global, arguments: &[String]) -> Result<Vec<&str>,
 }
 
 /// What the arguments of the program ask for, as `read` has it of the words behind the program's name.
-pub(crate) fn task_of(alloc: Global, arguments: &[String]) -> Result<Task, Failed<Usage>>
+pub fn task_of(alloc: Global, arguments: &[String]) -> Result<Task, Failed<Usage>>
     ensures task { IfOk result (λ task. asked arguments.now ≡ Some task) }
     ensures usage { result ≡ Err (Failed.Because (record {})) → asked arguments.now ≡ None }
     ensures no_task { asked arguments.now ≡ None
