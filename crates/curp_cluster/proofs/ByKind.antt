@@ -20,13 +20,13 @@ use Rattle.curp_msg.specs.Moved.{Moves, MovesAt, Node, numbered_move, within}
 use Rattle.curp_msg.specs.declared.machine.Done.{Done}
 use Rattle.curp_msg.specs.Input.{Input}
 use Rattle.curp_nodes.specs.Nodes.{HasNumbers, states}
+use Rattle.curp_line.specs.Due.{IsFewOf, master_at, most_marks}
+use Rattle.curp_line.proofs.Pushing.{moves_few}
 use Rattle.curp_cluster.specs.Nodes.{AreNumbered, NodeStates, most_fresh, nodes_of, with_nodes}
-use Rattle.curp_cluster.specs.Marks.{IsFewOf, master_at, most_marks}
 use Rattle.curp_cluster.proofs.Giving.{many_stay, node_moves, numbers_stay, one_moves, set_there, world_moves}
 use Rattle.curp_nodes.proofs.Additions.{ahead_numbers, ahead_stays, grown_none}
 use Rattle.curp_cluster.proofs.Grown.{Grows, manager_grows}
 use Rattle.curp_cluster.proofs.Numbered.{lent_numbered, map_set, numbered_at}
-use Rattle.curp_cluster.proofs.Pushing.{moves_few}
 
 -- ---- nodes of each kind
 

@@ -27,9 +27,10 @@ use Rattle.curp_msg.specs.declared.outcome.StepResult.{StepResult}
 use Rattle.curp_msg.specs.declared.outcome.StepResult.TheVariants as result
 use Rattle.curp_order.specs.Recorded.{invocation}
 use Rattle.curp_order.specs.declared.Event.{Event}
+use Rattle.curp_line.specs.Due.{marks_by, told_op}
 use Rattle.curp_cluster.specs.Given.{MakesStep, barrier, goes, hands, invoked_by}
 use Rattle.curp_cluster.specs.Marked.{MarkedNodes, Takes, left_by, seen, with_marked}
-use Rattle.curp_cluster.specs.Marks.{due_marks, marks_by, told_op}
+use Rattle.curp_cluster.specs.Marks.{due_marks}
 use Rattle.curp_cluster.specs.Nodes.{NodeStates, nodes_of}
 use Rattle.curp_cluster.proofs.Marking.{moved_as}
 use Rattle.curp_cluster.proofs.Stepping.{passed}

@@ -3,9 +3,7 @@ pub mod Giving
 pub mod Grown
 pub mod Numbered
 pub mod Opened
-pub mod Pushing
 pub mod Seen
 pub mod Stepping
 pub mod Keeping
 pub mod Marking
-pub mod Ops

@@ -17,7 +17,7 @@ use Rattle.curp_msg.specs.declared.outcome.StepResult.{StepResult}
 use Rattle.curp_msg.specs.declared.outcome.StepResult.TheVariants as result
 use Rattle.curp_msg.specs.declared.script.Step.{Step}
 use Rattle.curp_msg.specs.declared.script.Step.TheVariants as step
-use Rattle.curp_cluster.specs.Marks.{told_op}
+use Rattle.curp_line.specs.Due.{told_op}
 
 -- the step declares a client gone that isn't there
 abbrev pub expires_nobody : World → Step → Bool

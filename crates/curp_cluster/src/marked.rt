@@ -6,11 +6,11 @@ ghost use Rattle.curp_msg.specs.Script.{IsHeader};
 ghost use Rattle.curp_cluster.specs.Marked.{Takes, marked_of, with_marked};
 ghost use Rattle.curp_cluster.specs.Nodes.{with_nodes};
 
-use crate::marks::{Due, flag};
+use crate::marks::Due;
 use crate::nodes::Nodes;
 use curp_base::NoMemory;
 use curp_cmd::{KeptCommand, NodeId, RequestId, Standby};
-use curp_line::Line;
+use curp_line::{Line, flag};
 use curp_msg::{Done, Header, Input};
 use std::alloc::Global;
 use std::marker::Model;

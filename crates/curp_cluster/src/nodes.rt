@@ -7,7 +7,7 @@ ghost use Rattle.curp_model.specs.World as world;
 ghost use Rattle.curp_model.specs.World.{World, has_node};
 ghost use Rattle.curp_msg.specs.Moved.{Moves, within};
 ghost use Rattle.curp_msg.specs.Input.{input_of};
-ghost use Rattle.curp_cluster.specs.Marks.{IsFewOf, master_at, most_marks};
+ghost use Rattle.curp_line.specs.Due.{IsFewOf, master_at, most_marks};
 ghost use Rattle.curp_cluster.specs.Nodes.{nodes_of, with_nodes};
 
 use crate::given::{give, give_one};

@@ -1,8 +1,12 @@
 pub mod Ascending
 pub mod Between
+pub mod Captured
 pub mod Found
 pub mod Kept
 pub mod Links
+pub mod Ops
 pub mod Places
+pub mod Pushing
 pub mod Ranks
 pub mod Runs
+pub mod Since

@@ -1,4 +1,5 @@
 pub mod Content
 pub mod Cuts
+pub mod Due
 pub mod Slots
 pub mod Standing

@@ -2,8 +2,7 @@ use Rattle.std.proofs.Common.{length, drop, arith, ap, ◌∙◌, List}
 use Rattle.curp_cmd.specs.declared.command.Request.{Request}
 use Rattle.curp_cmd.specs.declared.entry.Entry.{Entry}
 use Rattle.curp_model.specs.World.{op_requests}
-use Rattle.curp_cluster.proofs.Marking.{left_behind_place}
-use Rattle.curp_cluster.proofs.Ops.{few_requests}
+use Rattle.curp_line.proofs.Ops.{few_requests, left_behind_place}
 use Rattle.curp_cluster.proofs.marks.due_of_adoption.Goals as goal
 
 -- the log has room for what was replayed behind the cut

@@ -4,8 +4,9 @@ use Rattle.curp_base.specs.Words.{numbered}
 use Rattle.curp_model.specs.Marks.{Mark}
 use Rattle.curp_model.specs.World.{moves}
 use Rattle.curp_msg.specs.Input.{input_of}
+use Rattle.curp_line.specs.Due.{DueMarks, HasRoomFor, IsSound, marks_by, master_at, most_due, most_marks}
 use Rattle.curp_cluster.specs.Marked.{MarkedNodes, Takes, with_marked}
-use Rattle.curp_cluster.specs.Marks.{DueMarks, HasRoomFor, IsSound, due_marks, marks_by, master_at, most_due, most_marks}
+use Rattle.curp_cluster.specs.Marks.{due_marks}
 use Rattle.curp_cluster.proofs.Keeping.{takes, takes_err, takes_none}
 use Rattle.curp_cluster.proofs.Marking.{has_room}
 use Rattle.curp_cluster.proofs.marked.Marked.give.Goals as goal

@@ -1,6 +1,7 @@
 use Rattle.std.proofs.Common.{◌≡◌, IfOk, subst}
 use Rattle.curp_msg.specs.Input.{input_of}
-use Rattle.curp_cluster.specs.Marks.{DueMarks, told_due}
+use Rattle.curp_line.specs.Due.{DueMarks}
+use Rattle.curp_cluster.specs.Marks.{told_due}
 use Rattle.curp_cluster.proofs.Marking.{as_master}
 use Rattle.curp_cluster.proofs.marks.Due.of.Goals as goal
 

@@ -1,6 +1,6 @@
 use Rattle.std.proofs.Common.{◌≡◌, ◌+◌, ◌++◌, ◌≤◌, length, drop}
 use Rattle.curp_model.specs.World.{op_marks}
-use Rattle.curp_cluster.proofs.marks.add_ops.Given as goal
+use Rattle.curp_line.proofs.ops.add_ops.Given as goal
 
 -- the marks so far and those of the entries that are left are all of them, and there is room
 abbrev pub invariant-loop-at : goal.invariant-loop-at

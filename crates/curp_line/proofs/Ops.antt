@@ -11,7 +11,7 @@ use Rattle.curp_entries.specs.Requests.{request_at}
 use Rattle.curp_model.specs.Marks.{Mark}
 use Rattle.curp_model.specs.Marks as mark
 use Rattle.curp_model.specs.World.{op_marks, op_requests}
-use Rattle.curp_cluster.specs.Marks.{told_op}
+use Rattle.curp_line.specs.Due.{told_op}
 
 -- what a mark tells of the Op that stands at a place, if one does
 abbrev told_at : Option Entry → Option (RequestId × Command)
@@ -56,3 +56,9 @@ few_requests (Op q acknowledge ∷ es) = omega (arith, few_requests es)
 few_requests (Take migration p ∷ es) = omega (arith, few_requests es)
 few_requests (Give migration p ∷ es) = omega (arith, few_requests es)
 few_requests (Expire client ∷ es) = omega (arith, few_requests es)
+
+-- the number of what is left behind a place
+pub left_behind_place : {A : Type 0} (n : ℕ) (xs : List A) → length (drop n xs) ≡ length xs - n
+left_behind_place zero xs = omega arith
+left_behind_place (suc n) [] = omega arith
+left_behind_place (suc n) (x ∷ xs) = omega (arith, left_behind_place n xs)

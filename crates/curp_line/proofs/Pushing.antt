@@ -41,7 +41,7 @@ use Rattle.curp_msg.specs.declared.machine.Local.{Local}
 use Rattle.curp_msg.specs.declared.machine.Local.TheVariants as local
 use Rattle.curp_msg.specs.declared.message.Message.{Message}
 use Rattle.curp_range.specs.Spans.{is_covered}
-use Rattle.curp_cluster.specs.Marks.{IsFew, IsFewOf, most_by_message, most_marks, most_suspects}
+use Rattle.curp_line.specs.Due.{IsFew, IsFewOf, most_by_message, most_marks, most_suspects}
 
 -- ---- a master that pushes, and one that captures
 

@@ -3,9 +3,10 @@ use Rattle.curp_cmd.specs.declared.entry.Entry.{Entry}
 use Rattle.curp_model.specs.Marks.{Mark}
 use Rattle.curp_model.specs.Master.{Captured}
 use Rattle.curp_model.specs.World.{capture_mark, op_marks}
-use Rattle.curp_cluster.specs.Marks.{is_captured_behind}
-use Rattle.curp_cluster.proofs.Marking.{answered_more, began_none, last_is_new, left_behind_place, none_captured, not_both, one_captured}
-use Rattle.curp_cluster.proofs.marks.Former.add_behind.Goals as goal
+use Rattle.curp_line.specs.Due.{is_captured_behind}
+use Rattle.curp_line.proofs.Ops.{left_behind_place}
+use Rattle.curp_line.proofs.Captured.{answered_more, began_none, last_is_new, none_captured, not_both, one_captured}
+use Rattle.curp_line.proofs.former.Former.add_behind.Goals as goal
 
 -- the last read is the new one
 pub returns-then-is_captured_behind-clause-marks : goal.returns-then-is_captured_behind-clause-marks
