@@ -4,7 +4,7 @@ pub mod Captured
 pub mod Found
 pub mod Kept
 pub mod Links
-pub mod Ops
+pub mod OpMarks
 pub mod Places
 pub mod Pushing
 pub mod Ranks

@@ -1,8 +1,9 @@
 use Rattle.std.proofs.Common.{length, drop, arith, ap, ◌∙◌, List}
+use Rattle.std.proofs.lemmas.List.{length-drop}
 use Rattle.curp_cmd.specs.declared.command.Request.{Request}
 use Rattle.curp_cmd.specs.declared.entry.Entry.{Entry}
 use Rattle.curp_model.specs.World.{op_requests}
-use Rattle.curp_line.proofs.Ops.{few_requests, left_behind_place}
+use Rattle.curp_line.proofs.OpMarks.{few_requests}
 use Rattle.curp_cluster.proofs.marks.due_of_adoption.Goals as goal
 
 -- the log has room for what was replayed behind the cut
@@ -15,6 +16,6 @@ returns-clause-sound c =
       ap (λ (rs : List Request). length rs) c.in_ok-op_requests.ensures,
       ap (λ (es : List Entry). length (op_requests es)) (c.deref.ensures.value ∙ c.in_ok-suffix.ensures.value),
       few_requests (drop cut log),
-      left_behind_place cut log,
+      length-drop cut log,
       c.len-length.ensures.small,
     )

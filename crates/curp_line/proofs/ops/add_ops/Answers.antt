@@ -5,7 +5,7 @@ use Rattle.curp_cmd.specs.declared.command.RequestId.{RequestId}
 use Rattle.curp_model.specs.Marks.{Mark}
 use Rattle.curp_model.specs.Marks as mark
 use Rattle.curp_model.specs.World.{op_marks}
-use Rattle.curp_line.proofs.Ops.{op_marked, op_unmarked}
+use Rattle.curp_line.proofs.OpMarks.{op_marked, op_unmarked}
 use Rattle.curp_line.proofs.ops.add_ops.Goals as goal
 use Rattle.curp_line.proofs.ops.add_ops.Goals.{in-Some, in_default}
 

@@ -1,10 +1,10 @@
 use Rattle.std.proofs.Common.{◌≡◌, ◌++◌, ◌∷◌, [], List, length, append-nil, append_assoc, arith, ap, sym, ◌∙◌, drop, map}
+use Rattle.std.proofs.lemmas.List.{length-drop}
 use Rattle.curp_cmd.specs.declared.entry.Entry.{Entry}
 use Rattle.curp_model.specs.Marks.{Mark}
 use Rattle.curp_model.specs.Master.{Captured}
 use Rattle.curp_model.specs.World.{capture_mark, op_marks}
 use Rattle.curp_line.specs.Due.{is_captured_behind}
-use Rattle.curp_line.proofs.Ops.{left_behind_place}
 use Rattle.curp_line.proofs.Captured.{answered_more, began_none, last_is_new, none_captured, not_both, one_captured}
 use Rattle.curp_line.proofs.former.Former.add_behind.Goals as goal
 
@@ -62,7 +62,7 @@ returns-else-is_captured_behind-clause-spare c = λ answers.
       arith,
       c.add_ops.ensures.spare,
       ap (λ (es : List Entry). length es) entries,
-      left_behind_place f.length m.log,
+      length-drop f.length m.log,
       c.requires.room.room,
       answered_more f m answers,
     )

@@ -56,9 +56,3 @@ few_requests (Op q acknowledge ∷ es) = omega (arith, few_requests es)
 few_requests (Take migration p ∷ es) = omega (arith, few_requests es)
 few_requests (Give migration p ∷ es) = omega (arith, few_requests es)
 few_requests (Expire client ∷ es) = omega (arith, few_requests es)
-
--- the number of what is left behind a place
-pub left_behind_place : {A : Type 0} (n : ℕ) (xs : List A) → length (drop n xs) ≡ length xs - n
-left_behind_place zero xs = omega arith
-left_behind_place (suc n) [] = omega arith
-left_behind_place (suc n) (x ∷ xs) = omega (arith, left_behind_place n xs)
