@@ -1,13 +1,9 @@
 //! What the tests of several files build alike. A test ends where something isn't built. Nothing is promised of what is
 //! built: a test has to be safe, and what a call promises would join each goal of its caller.
 
-use curp_base::{Boxed, Items, Shared};
-use curp_cmd::{Answer, Command, Entry, Key, NodeId, Request, RequestId, Value};
-use curp_msg::{
-    Adopted, AppendAnswer, Appended, Ask, Body, Config, FenceAnswer, FenceReply, Message,
-    PartConfig, Reply,
-};
-use curp_range::{Ranges, Spans};
+use curp_base::{Items, Shared};
+use curp_cmd::{Command, Entry, Key, NodeId, Request, RequestId, Value};
+use curp_msg::{Adopted, AppendAnswer, Appended, Ask, Body, FenceAnswer, FenceReply, Message};
 use std::alloc::Global;
 use std::process::Abort;
 
@@ -42,10 +38,6 @@ fn value(rt: &impl Abort, bytes: &[u8]) -> Value {
 
 pub(crate) fn put(rt: &impl Abort, name: &[u8], bytes: &[u8]) -> Command {
     Command::Put(key(rt, name), value(rt, bytes))
-}
-
-pub(crate) fn id(client: u32, seq: u32) -> RequestId {
-    RequestId { client, seq }
 }
 
 pub(crate) fn request(client: u32, seq: u32, command: Command) -> Request {
@@ -86,17 +78,6 @@ pub(crate) fn ask(rt: &impl Abort, alloc: Global, request: &Request) -> Ask {
     }
 }
 
-pub(crate) fn reply(rt: &impl Abort, alloc: Global, id: RequestId, synced: bool) -> Body {
-    let reply = Reply {
-        id,
-        synced,
-        epoch: 1,
-        version: 1,
-        answer: Answer::Done,
-    };
-    Body::Reply(must(rt, Boxed::of(alloc, &reply)))
-}
-
 pub(crate) fn stored(epoch: u32, length: u64, round: u64) -> Body {
     Body::Appended(Appended {
         epoch,
@@ -118,36 +99,4 @@ pub(crate) fn log_of(epoch: u32, entries: Vec<Entry>) -> Body {
         epoch,
         answer: FenceReply::Log(Items::new(entries)),
     })
-}
-
-fn to(rt: &impl Abort, alloc: Global, hi: u64) -> Spans {
-    Spans::new(must(rt, Ranges::new(alloc, 0, hi)))
-}
-
-// The one partition, of master 1 and backup 1, that owns the hashes up to one.
-fn part(rt: &impl Abort, alloc: Global, witnesses: &[NodeId], hi: u64) -> PartConfig {
-    PartConfig {
-        part: 1,
-        epoch: 1,
-        version: 1,
-        master: NodeId::master(1),
-        backups: Items::new(backups(rt, alloc, &[1])),
-        witnesses: Items::new(nodes(rt, alloc, witnesses)),
-        ranges: to(rt, alloc, hi),
-    }
-}
-
-pub(crate) fn config(
-    rt: &impl Abort,
-    alloc: Global,
-    serial: u32,
-    witnesses: &[NodeId],
-    hi: u64,
-) -> Config {
-    let mut parts = Vec::new(alloc);
-    must(rt, parts.push(part(rt, alloc, witnesses, hi)));
-    Config {
-        serial,
-        parts: Items::new(parts),
-    }
 }

@@ -1,10 +1,8 @@
-//! Tests of clients, of masters that serve and of masters that recover, by their public calls.
+//! Tests of masters that serve and of masters that recover, by their public calls.
 #![tactic(auto)]
 
 #[cfg(test)]
 mod build;
-#[cfg(test)]
-mod client;
 #[cfg(test)]
 mod master;
 #[cfg(test)]

@@ -1,8 +1,7 @@
 //! What the tests of several files build alike. A test ends where something isn't built. Nothing is promised of what is
 //! built: a test has to be safe, and what a call promises would join each goal of its caller.
-ghost use Rattle.std.specs.Prelude.{◌≡◌, Ok};
 
-use curp_base::{NoMemory, Shared};
+use curp_base::Shared;
 use curp_cmd::{Command, Key, Request, RequestId, Value};
 use std::alloc::Global;
 use std::process::Abort;
@@ -24,13 +23,6 @@ pub(crate) fn must<T, E: Drop>(rt: &impl Abort, answer: Result<T, E>) -> T {
         Ok(value) => value,
         Err(_) => rt.panic("an error"),
     }
-}
-
-// There is room then: a call that asks for it may be made.
-pub(crate) fn made(rt: &impl Abort, answer: Result<(), NoMemory>)
-    ensures { answer ≡ Ok tt }
-{
-    answer.expect(rt, "no memory")
 }
 
 pub(crate) fn key(rt: &impl Abort, bytes: &[u8]) -> Key {

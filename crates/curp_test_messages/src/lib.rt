@@ -1,4 +1,4 @@
-//! Tests of messages, of any node that takes them, of witnesses and of marks, by their public calls.
+//! Tests of messages, of any node that takes them, and of witnesses, by their public calls.
 #![tactic(auto)]
 
 #[cfg(test)]
@@ -7,8 +7,6 @@ mod asker;
 mod build;
 #[cfg(test)]
 mod carried;
-#[cfg(test)]
-mod marks;
 #[cfg(test)]
 mod messages;
 #[cfg(test)]

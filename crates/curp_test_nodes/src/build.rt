@@ -1,5 +1,5 @@
-//! What the tests of several files build alike. A test ends where something isn't built. Nothing is promised of what is
-//! built: a test has to be safe, and what a call promises would join each goal of its caller.
+//! What the tests build by calls of which they know nothing. A test ends where something isn't built. Nothing is promised
+//! of what is built: a test has to be safe, and what a call promises would join each goal of its caller.
 
 use curp_base::{Boxed, Items, Shared};
 use curp_cmd::{Answer, Command, Entry, Key, NodeId, Request, RequestId, Value};
@@ -12,12 +12,7 @@ use std::alloc::Global;
 use std::fmt::Debug;
 use std::process::Abort;
 
-// A test ends where it isn't so, and says what wasn't.
-pub(crate) fn right(rt: &impl Abort, so: bool, what: &str) {
-    assert!(rt; so, "{what}");
-}
-
-// The same of one of several, told by its place.
+// A test ends where it isn't so of one of several, and says what wasn't and its place.
 pub(crate) fn right_at(rt: &impl Abort, so: bool, what: &str, place: u64) {
     assert!(rt; so, "{what}, at {place}");
 }

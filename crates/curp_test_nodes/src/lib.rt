@@ -1,9 +1,7 @@
-//! Tests of the manager, and of each node behind the trait of all, by their public calls.
+//! Tests of each node behind the trait of all, by their public calls.
 #![tactic(auto)]
 
 #[cfg(test)]
 mod build;
-#[cfg(test)]
-mod manager;
 #[cfg(test)]
 mod nodes;

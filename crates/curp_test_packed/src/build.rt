@@ -3,11 +3,7 @@
 ghost use Rattle.std.specs.Prelude.{◌≡◌, Ok};
 
 use curp_base::{NoMemory, Shared};
-use curp_cmd::{Command, Entry, Key, NodeId, Request, RequestId, Value, room};
-use curp_log::Log;
-use curp_master::Master;
-use curp_model::Check;
-use curp_msg::{Body, Message};
+use curp_cmd::{Command, Entry, Key, Request, RequestId, Value};
 use std::alloc::Global;
 use std::process::Abort;
 
@@ -64,43 +60,4 @@ pub(crate) fn op(rt: &impl Abort, alloc: Global, request: &Request, acknowledge:
         request: must(rt, Shared::of(alloc, request)),
         acknowledge,
     }
-}
-
-// ---- Logs
-
-pub(crate) fn begin(rt: &impl Abort, alloc: Global, hi: u64) -> Log {
-    must(rt, Log::begin(alloc, 0, hi))
-}
-
-// The entry is no range that leaves, and an operation is new and of hashes that the log has.
-pub(crate) fn push(rt: &impl Abort, log: &mut Log, entry: Entry) -> u64 {
-    made(rt, log.reserve(room(&entry)));
-    match &entry {
-        Entry::Op { request, .. } => {
-            assert!(rt; log.check(&request.id) == Check::New && log.owns(&request.command));
-        }
-        Entry::Take { .. } => rt.panic("a range that leaves"),
-        _ => {}
-    }
-    log.push(entry)
-}
-
-// Master 1 with that log, of one backup and one witness.
-pub(crate) fn serving(rt: &impl Abort, alloc: Global, log: Log) -> Master {
-    let backups = must(rt, Vec::from_slice(alloc, &[NodeId::backup(1)]));
-    let witnesses = must(rt, Vec::from_slice(alloc, &[NodeId::witness(1)]));
-    let shell = must(rt, Master::shell(alloc, 1, 1, 1, 1, backups, witnesses));
-    Master::begin(shell, log, 0)
-}
-
-// The master hears that from the node.
-pub(crate) fn tell(rt: &impl Abort, master: &mut Master, from: NodeId, body: Body) {
-    let message = Message {
-        from,
-        to: NodeId::master(1),
-        body,
-    };
-    let done = must(rt, master.on_message(&message));
-    drop(done);
-    drop(message);
 }

@@ -187,7 +187,7 @@ const PLACES: [u64; 9] = [0, 63, 64, 65, 9_919, 9_920, 9_921, 10_000, 10_001];
 const ENDS: [u64; 3] = [65, 9_920, 9_921];
 
 // The plain entries from an index on, as far as another.
-pub(crate) fn part(entries: &[Entry], start: u64, end: u64) -> &[Entry] {
+fn part(entries: &[Entry], start: u64, end: u64) -> &[Entry] {
     let rest = past(entries, start);
     let count = end.saturating_sub(start) as usize;
     rest.get(..count).unwrap_or(rest)
@@ -223,7 +223,7 @@ fn reads_each_part(rt: HostRuntime) {
     drop(plain);
 }
 
-pub(crate) fn request_of(entry: &Entry) -> Option<Request> {
+fn request_of(entry: &Entry) -> Option<Request> {
     match entry {
         Entry::Op { request, .. } => Some(**request),
         _ => None,

@@ -1,7 +1,6 @@
 //! Logs whose oldest entries are packed: what a log has, and what a master's log has in which a range left.
 
 use crate::build::{begin, made, must, op, push, put, request, right, right_at, serving, tell};
-use crate::entries::{part, request_of};
 use crate::packages::package;
 use curp_base::{Shared, past};
 use curp_cmd::{Entry, NodeId, Package, Request, room};
@@ -67,6 +66,13 @@ fn entries(rt: &impl Abort, alloc: Global, count: u32) -> Vec<Entry> {
 // With 10,000 entries 9,920 are packed.
 const PLACES: [u64; 8] = [0, 63, 64, 65, 9_920, 9_921, 10_000, 10_001];
 
+// The plain entries from an index on, as far as another.
+fn part(entries: &[Entry], start: u64, end: u64) -> &[Entry] {
+    let rest = past(entries, start);
+    let count = end.saturating_sub(start) as usize;
+    rest.get(..count).unwrap_or(rest)
+}
+
 fn try_rest(rt: &impl Abort, log: &Log, plain: &[Entry], start: u64) {
     let rest = must(rt, log.suffix(start));
     right_at(rt, all_same(&rest, past(plain, start)), "rest", start);
@@ -101,6 +107,13 @@ fn a_log_gives_each_part(rt: HostRuntime) {
     try_parts(&rt, &log, &plain);
     drop(log);
     drop(plain);
+}
+
+fn request_of(entry: &Entry) -> Option<Request> {
+    match entry {
+        Entry::Op { request, .. } => Some(**request),
+        _ => None,
+    }
 }
 
 fn is_copied(rt: &impl Abort, log: &Log, index: u64, entry: &Entry) -> bool {

@@ -1,0 +1,7 @@
+//! Tests of clients by their public calls.
+#![tactic(auto)]
+
+#[cfg(test)]
+mod build;
+#[cfg(test)]
+mod client;

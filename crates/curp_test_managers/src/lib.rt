@@ -1,0 +1,7 @@
+//! Tests of the manager by its public calls.
+#![tactic(auto)]
+
+#[cfg(test)]
+mod build;
+#[cfg(test)]
+mod manager;

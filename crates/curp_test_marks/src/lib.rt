@@ -1,0 +1,7 @@
+//! Tests of the marks of updates and reads by their public calls.
+#![tactic(auto)]
+
+#[cfg(test)]
+mod build;
+#[cfg(test)]
+mod marks;
