@@ -9,7 +9,7 @@ use curp_base::{Failed, NoMemory, Shared};
 use curp_cmd::{Command, Key, NodeId, NodeKind, Value};
 use curp_gather::{GatherError, Journals, gather};
 use curp_journal::{Arrived, Named};
-use curp_live::anew_at_opening;
+use curp_anew::anew_at_opening;
 use curp_msg::{Config, Core, Header, Local, Protocol};
 use curp_nodes::{ClientNode, ManagerNode, MasterNode};
 use curp_same::Same;
