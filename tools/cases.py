@@ -22,7 +22,7 @@ sys.dont_write_bytecode = True
 from runs import Run, Wrong  # noqa: E402
 
 # How many runs there are. Whoever adds one raises it, so that none is lost unseen.
-WANTED = 1514
+WANTED = 1555
 
 # No run is begun once all took so long, as where the program hangs.
 SECONDS_OF_ALL = 600

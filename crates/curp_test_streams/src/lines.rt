@@ -1,5 +1,5 @@
 // Lines from sources that fail, or that give little at a time.
-use crate::streams::must_hold;
+use crate::rows::must_hold;
 use curp_io::{Lines, MemorySource, NextLine, Source, SureSource};
 use std::alloc::Global;
 use std::process::Abort;

@@ -1,5 +1,5 @@
 // Sinks in memory.
-use crate::streams::must_hold;
+use crate::rows::must_hold;
 use curp_io::{Flushed, MemorySink, Sink, SureSink, Written, write_piece};
 use std::alloc::Global;
 use std::process::Abort;

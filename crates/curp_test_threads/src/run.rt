@@ -180,69 +180,61 @@ fn of_sixteen(protocol: Protocol) -> LivePlan {
     }
 }
 
-// Whether each of 25 runs of sixteen clients is made once.
+// Each of 25 runs of sixteen clients is made once.
 fn runs_end<R: Threads + Wait + Sync>(
     rt: &R,
     alloc: Global,
     protocol: Protocol,
-) -> Result<bool, NoMemory> {
+) -> Result<(), Fail> {
     let plan = of_sixteen(protocol);
     for _ in 0..25 {
         if !is_made_once(rt, alloc, &plan, &Watching::new(false))? {
-            return Ok(false);
+            return Err(Fail::new("a run that isn't made once"));
         }
     }
-    Ok(true)
+    Ok(())
 }
 
 // A hundred runs in each protocol, in eight tests.
 
 #[test]
 fn runs_1_to_25_of_sixteen_clients_are_made_once(rt: HostRuntime) -> Result<(), Fail> {
-    assert!(rt; runs_end(&rt, rt.alloc(), Protocol::One)?);
-    Ok(())
+    runs_end(&rt, rt.alloc(), Protocol::One)
 }
 
 #[test]
 fn runs_26_to_50_of_sixteen_clients_are_made_once(rt: HostRuntime) -> Result<(), Fail> {
-    assert!(rt; runs_end(&rt, rt.alloc(), Protocol::One)?);
-    Ok(())
+    runs_end(&rt, rt.alloc(), Protocol::One)
 }
 
 #[test]
 fn runs_51_to_75_of_sixteen_clients_are_made_once(rt: HostRuntime) -> Result<(), Fail> {
-    assert!(rt; runs_end(&rt, rt.alloc(), Protocol::One)?);
-    Ok(())
+    runs_end(&rt, rt.alloc(), Protocol::One)
 }
 
 #[test]
 fn runs_76_to_100_of_sixteen_clients_are_made_once(rt: HostRuntime) -> Result<(), Fail> {
-    assert!(rt; runs_end(&rt, rt.alloc(), Protocol::One)?);
-    Ok(())
+    runs_end(&rt, rt.alloc(), Protocol::One)
 }
 
 #[test]
 fn runs_1_to_25_in_protocol_2_are_made_once(rt: HostRuntime) -> Result<(), Fail> {
-    assert!(rt; runs_end(&rt, rt.alloc(), Protocol::Two)?);
-    Ok(())
+    runs_end(&rt, rt.alloc(), Protocol::Two)
 }
 
 #[test]
 fn runs_26_to_50_in_protocol_2_are_made_once(rt: HostRuntime) -> Result<(), Fail> {
-    assert!(rt; runs_end(&rt, rt.alloc(), Protocol::Two)?);
-    Ok(())
+    runs_end(&rt, rt.alloc(), Protocol::Two)
 }
 
 #[test]
 fn runs_51_to_75_in_protocol_2_are_made_once(rt: HostRuntime) -> Result<(), Fail> {
-    assert!(rt; runs_end(&rt, rt.alloc(), Protocol::Two)?);
-    Ok(())
+    runs_end(&rt, rt.alloc(), Protocol::Two)
 }
 
 #[test]
 fn runs_76_to_100_in_protocol_2_are_made_once(rt: HostRuntime) -> Result<(), Fail> {
-    assert!(rt; runs_end(&rt, rt.alloc(), Protocol::Two)?);
-    Ok(())
+    runs_end(&rt, rt.alloc(), Protocol::Two)
 }
 
 // Each number of backups, of partitions and of recoveries, with few commands.

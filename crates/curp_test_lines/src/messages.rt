@@ -1,5 +1,5 @@
 // Texts of steps that no script brings about: messages that no node sends here, and the largest numbers.
-use crate::streams::must_hold;
+use crate::rows::must_hold;
 use curp_base::{Items, Shared};
 use curp_cmd::{Answer, Command, Key, NodeId, Request, RequestId, Value};
 use curp_msg::{

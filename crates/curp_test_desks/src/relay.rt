@@ -1,7 +1,7 @@
 ghost use Rattle.std.specs.Prelude.{◌≡◌, false, IfOk};
 ghost use Rattle.curp_msg.specs.Moved.{says};
 ghost use Rattle.curp_msg.specs.declared.body.Body.TheVariants as body;
-ghost use Rattle.curp_test_inboxes.specs.Relay.{both};
+ghost use Rattle.curp_test_desks.specs.Relay.{both};
 
 use curp_base::NoMemory;
 use curp_cmd::NodeId;
@@ -20,7 +20,7 @@ pub(crate) struct Relay {
 }
 
 impl Model for Relay {
-    ghost use Rattle.curp_test_inboxes.specs.Relay.{RelayState};
+    ghost use Rattle.curp_test_desks.specs.Relay.{RelayState};
 
     ghost Value = { RelayState };
 
@@ -28,7 +28,7 @@ impl Model for Relay {
 }
 
 impl Core for Relay {
-    ghost use Rattle.curp_test_inboxes.specs.Relay.{relay, relay_refuses, relay_takes};
+    ghost use Rattle.curp_test_desks.specs.Relay.{relay, relay_refuses, relay_takes};
 
     ghost machine = { relay };
 

@@ -11,7 +11,7 @@ fn play(alloc: Global, source: &mut MemorySource, sink: &mut MemorySink) -> Stat
 }
 
 fn played(rt: &impl Abort, alloc: Global, script: &str, failing: Failing) -> Ended {
-    let mut source = source(rt, alloc, script, failing, 70_000);
+    let mut source = source(rt, alloc, script, failing);
     let mut sink = sink(rt, alloc, failing);
     let status = play(alloc, &mut source, &mut sink);
     drop(source);

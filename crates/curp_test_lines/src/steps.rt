@@ -2,7 +2,7 @@
 ghost use Rattle.std.specs.Prelude.{IsTrue};
 ghost use Rattle.curp_script.specs.Printed.{NamesNode};
 
-use crate::streams::must_hold;
+use crate::rows::must_hold;
 use curp_cmd::{Keeper, NodeId, NodeKind};
 use curp_print::print_line;
 use curp_script::{LineReader, Step};

@@ -19,7 +19,7 @@ const STEP: &str = "s1 done\nm1 G M1 expire c1\n";
 const WHOLE: &str = "s1 done\nm1 G M1 expire c1\ndecisions 1\n";
 
 fn managed(rt: &impl Abort, alloc: Global, failing: Failing) -> Ended {
-    let mut source = source(rt, alloc, ONE_ORDER, failing, 70_000);
+    let mut source = source(rt, alloc, ONE_ORDER, failing);
     let mut sink = sink(rt, alloc, failing);
     let status = manage(alloc, &mut source, &mut sink);
     drop(source);
