@@ -24,20 +24,22 @@ fn comes(fronts: &mut Fronts, connection: u64, bytes: &[u8]) -> bool {
     }
 }
 
+/// So many bytes `0` come.
+fn many_come(rt: &impl Abort, alloc: Global, fronts: &mut Fronts, count: usize) -> bool {
+    let many = repeated(rt, alloc, "0", count);
+    comes(fronts, 1, many.as_bytes())
+}
+
 fn closes(fronts: &mut Fronts, connection: u64) -> bool {
     fronts.on_closed(connection);
     true
-}
-
-fn id(seq: u32) -> RequestId {
-    RequestId { client: 1, seq }
 }
 
 /// Whether that connection's command is next, and is invoked under that number. The connection is 0 where there is none.
 fn invokes(fronts: &mut Fronts, pending: usize, seq: u32, wanted: u64) -> bool {
     match fronts.next_command(pending) {
         Ok(Some((connection, _))) => {
-            fronts.on_invoked(connection, id(seq));
+            fronts.on_invoked(connection, RequestId { client: 1, seq });
             connection == wanted
         }
         Ok(None) => wanted == 0,
@@ -57,7 +59,7 @@ fn refuses(fronts: &mut Fronts, wanted: u64) -> bool {
 }
 
 fn completes(fronts: &mut Fronts, seq: u32, answer: Answer) -> bool {
-    fronts.on_completed(id(seq), &answer);
+    fronts.on_completed(RequestId { client: 1, seq }, &answer);
     true
 }
 
@@ -65,39 +67,30 @@ fn output(rt: &impl Abort, fronts: &mut Fronts) -> Option<FrontOutput> {
     fronts.next_output().expect(rt, "no memory")
 }
 
-fn push(rt: &impl Abort, text: &mut Vec<u8>, bytes: &[u8]) {
+/// A connection has one digit.
+fn push(rt: &impl Abort, text: &mut Vec<u8>, connection: u64, bytes: &[u8]) {
+    text.push(b'0' + (connection % 10) as u8)
+        .expect(rt, "no memory");
     text.extend_from_slice(bytes).expect(rt, "no memory");
 }
 
-/// All that is told until nothing is, where connections have numbers below 10.
-fn told(rt: &impl Abort, alloc: Global, fronts: &mut Fronts) -> Vec<u8> {
+/// Whether all that is told until nothing is, is that.
+fn tells(rt: &impl Abort, alloc: Global, fronts: &mut Fronts, wanted: &str) -> bool {
     let mut text = Vec::new(alloc);
     for _ in 0..100 {
         match output(rt, fronts) {
             Some(FrontOutput::Reply { connection, bytes }) => {
-                push(rt, &mut text, &[digit(connection)]);
-                push(rt, &mut text, bytes.as_slice());
+                push(rt, &mut text, connection, bytes.as_slice())
             }
             Some(FrontOutput::Close { connection }) => {
-                push(rt, &mut text, &[digit(connection)]);
-                push(rt, &mut text, b"close\r\n");
+                push(rt, &mut text, connection, b"close\r\n")
             }
             Some(FrontOutput::More { connection }) => {
-                push(rt, &mut text, &[digit(connection)]);
-                push(rt, &mut text, b"more\r\n");
+                push(rt, &mut text, connection, b"more\r\n")
             }
-            None => return text,
+            None => break,
         }
     }
-    text
-}
-
-fn digit(connection: u64) -> u8 {
-    b'0' + (connection % 10) as u8
-}
-
-fn tells(rt: &impl Abort, alloc: Global, fronts: &mut Fronts, wanted: &str) -> bool {
-    let text = told(rt, alloc, fronts);
     text.as_slice() == wanted.as_bytes()
 }
 
@@ -106,6 +99,8 @@ fn tells(rt: &impl Abort, alloc: Global, fronts: &mut Fronts, wanted: &str) -> b
 enum Row {
     /// Bytes of that connection come.
     Comes(u64, &'static [u8]),
+    /// So many bytes of connection 1 come.
+    Many(usize),
     /// No more bytes of that connection come.
     Closes(u64),
     /// With so many requests pending, the command that is next is invoked under that number: of which connection it is.
@@ -126,6 +121,7 @@ enum Row {
 fn holds(rt: &impl Abort, alloc: Global, fronts: &mut Fronts, row: &Row) -> bool {
     match row {
         Row::Comes(connection, bytes) => comes(fronts, *connection, bytes),
+        Row::Many(count) => many_come(rt, alloc, fronts, *count),
         Row::Closes(connection) => closes(fronts, *connection),
         Row::Invokes(pending, seq, connection) => invokes(fronts, *pending, *seq, *connection),
         Row::Refuses(connection) => refuses(fronts, *connection),
@@ -137,15 +133,11 @@ fn holds(rt: &impl Abort, alloc: Global, fronts: &mut Fronts, row: &Row) -> bool
     }
 }
 
-fn try_on(rt: &impl Abort, alloc: Global, fronts: &mut Fronts, rows: &[Row]) {
-    for (place, row) in rows.iter().enumerate() {
-        must_hold_at(rt, place, holds(rt, alloc, fronts, row));
-    }
-}
-
 fn try_rows(rt: &impl Abort, alloc: Global, rows: &[Row]) {
     let mut fronts = Fronts::new(alloc);
-    try_on(rt, alloc, &mut fronts, rows);
+    for (place, row) in rows.iter().enumerate() {
+        must_hold_at(rt, place, holds(rt, alloc, &mut fronts, row));
+    }
     drop(fronts);
 }
 
@@ -260,35 +252,23 @@ fn refused_command_has_its_reply(rt: HostRuntime) {
     try_rows(&rt, rt.alloc(), &REFUSED);
 }
 
-static TOO_MANY: [Row; 1] = [Row::Tells(
-    "1-ERR unknown command\r\n1-ERR too many bytes\r\n1close\r\n",
-)];
+static TOO_MANY: [Row; 3] = [
+    Row::Comes(1, PING),
+    Row::Many(131_060),
+    Row::Tells("1-ERR unknown command\r\n1-ERR too many bytes\r\n1close\r\n"),
+];
 
 #[test]
 fn more_bytes_than_may_wait_end_a_connection(rt: HostRuntime) {
-    let mut fronts = Fronts::new(rt.alloc());
-    try_many(&rt, rt.alloc(), &mut fronts);
-    drop(fronts);
-}
-
-fn try_many(rt: &impl Abort, alloc: Global, fronts: &mut Fronts) {
-    let many = repeated(rt, alloc, "0", 131_060);
-    must_hold(rt, "a request", comes(fronts, 1, PING));
-    must_hold(rt, "many bytes", comes(fronts, 1, many.as_bytes()));
-    try_on(rt, alloc, fronts, &TOO_MANY);
+    try_rows(&rt, rt.alloc(), &TOO_MANY);
 }
 
 // ---- parcels
 
-fn parcel(rt: &impl Abort, alloc: Global, output: &FrontOutput) -> Vec<u8> {
-    let mut text = Vec::new(alloc);
-    assert!(rt; is_short(output), "short");
-    write_front_output(output, &mut text).expect(rt, "no memory");
-    text
-}
-
 fn try_parcel(rt: &impl Abort, alloc: Global, output: FrontOutput, bytes: &[u8]) {
-    let text = parcel(rt, alloc, &output);
+    let mut text = Vec::new(alloc);
+    assert!(rt; is_short(&output), "short");
+    write_front_output(&output, &mut text).expect(rt, "no memory");
     drop(output);
     must_hold(rt, "a parcel", text.as_slice() == bytes);
 }

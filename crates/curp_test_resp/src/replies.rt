@@ -5,28 +5,12 @@ use curp_resp::{Other, Wrong, other_text, protocol_text, reply_text, wrong_text}
 use std::alloc::Global;
 use std::process::Abort;
 
-// ---- what is called, of which the tests know nothing
-
-fn reply(rt: &impl Abort, alloc: Global, answer: &Answer) -> Vec<u8> {
-    reply_text(alloc, answer).expect(rt, "no memory")
-}
-
-fn reply_to_wrong(rt: &impl Abort, alloc: Global, wrong: Wrong) -> Vec<u8> {
-    wrong_text(alloc, wrong).expect(rt, "no memory")
-}
-
-fn reply_to_other(rt: &impl Abort, alloc: Global, other: &Other) -> Vec<u8> {
-    other_text(alloc, other).expect(rt, "no memory")
-}
-
 fn echo(rt: &impl Abort, text: &str) -> Other {
     Other::Echo(Value::new(text.as_bytes()).expect(rt, "no value"))
 }
 
-// ---- the table
-
 fn try_reply(rt: &impl Abort, alloc: Global, answer: Answer, text: &[u8], row: &str) {
-    let reply = reply(rt, alloc, &answer);
+    let reply = reply_text(alloc, &answer).expect(rt, "no memory");
     must_hold(rt, row, reply.as_slice() == text);
 }
 
@@ -35,20 +19,25 @@ fn row(rt: &impl Abort, alloc: Global, answer: Answer, text: &str) {
     try_reply(rt, alloc, answer, text.as_bytes(), text);
 }
 
+const ANSWERS: [(Answer, &str); 11] = [
+    (Answer::Done, "+OK\r\n"),
+    (Answer::Removed(true), ":1\r\n"),
+    (Answer::Removed(false), ":0\r\n"),
+    (Answer::Swapped(true), ":1\r\n"),
+    (Answer::Swapped(false), ":0\r\n"),
+    (Answer::Length(0), ":0\r\n"),
+    (Answer::Length(128), ":128\r\n"),
+    (Answer::NotNumber, "-ERR not a number\r\n"),
+    (Answer::Overflow, "-ERR overflow\r\n"),
+    (Answer::TooLong, "-ERR too long\r\n"),
+    (Answer::Found(None), "$-1\r\n"),
+];
+
 #[test]
 fn each_answer_has_its_reply(rt: HostRuntime) {
-    let alloc = rt.alloc();
-    row(&rt, alloc, Answer::Done, "+OK\r\n");
-    row(&rt, alloc, Answer::Removed(true), ":1\r\n");
-    row(&rt, alloc, Answer::Removed(false), ":0\r\n");
-    row(&rt, alloc, Answer::Swapped(true), ":1\r\n");
-    row(&rt, alloc, Answer::Swapped(false), ":0\r\n");
-    row(&rt, alloc, Answer::Length(0), ":0\r\n");
-    row(&rt, alloc, Answer::Length(128), ":128\r\n");
-    row(&rt, alloc, Answer::NotNumber, "-ERR not a number\r\n");
-    row(&rt, alloc, Answer::Overflow, "-ERR overflow\r\n");
-    row(&rt, alloc, Answer::TooLong, "-ERR too long\r\n");
-    row(&rt, alloc, Answer::Found(None), "$-1\r\n");
+    for (answer, text) in ANSWERS {
+        row(&rt, rt.alloc(), answer, text);
+    }
 }
 
 static NUMBERS: [(u64, &str); 5] = [
@@ -89,27 +78,34 @@ fn the_longest_value_has_its_reply(rt: HostRuntime) {
 
 /// A row of the table of wrong requests.
 fn wrong_row(rt: &impl Abort, alloc: Global, wrong: Wrong, text: &str) {
-    let reply = reply_to_wrong(rt, alloc, wrong);
+    let reply = wrong_text(alloc, wrong).expect(rt, "no memory");
     must_hold(rt, text, reply.as_slice() == text.as_bytes());
 }
 
+static WRONG: [(Wrong, &str); 6] = [
+    (Wrong::Unknown, "-ERR unknown command\r\n"),
+    (Wrong::Arguments, "-ERR arguments\r\n"),
+    (Wrong::Size, "-ERR size\r\n"),
+    (Wrong::KeyTwice, "-ERR key twice\r\n"),
+    (
+        Wrong::NotInteger,
+        "-ERR value is not an integer or out of range\r\n",
+    ),
+    (Wrong::NotOne, "-ERR increment by 1 only\r\n"),
+];
+
 #[test]
 fn each_wrong_request_has_its_reply(rt: HostRuntime) {
-    let alloc = rt.alloc();
-    wrong_row(&rt, alloc, Wrong::Unknown, "-ERR unknown command\r\n");
-    wrong_row(&rt, alloc, Wrong::Arguments, "-ERR arguments\r\n");
-    wrong_row(&rt, alloc, Wrong::Size, "-ERR size\r\n");
-    wrong_row(&rt, alloc, Wrong::KeyTwice, "-ERR key twice\r\n");
-    let not_integer = "-ERR value is not an integer or out of range\r\n";
-    wrong_row(&rt, alloc, Wrong::NotInteger, not_integer);
-    wrong_row(&rt, alloc, Wrong::NotOne, "-ERR increment by 1 only\r\n");
+    for (wrong, text) in &WRONG {
+        wrong_row(&rt, rt.alloc(), *wrong, text);
+    }
     let text = b"-ERR protocol\r\n".as_slice();
     must_hold(&rt, "protocol", protocol_text() == text);
 }
 
 /// A row of the table of requests that mean no command.
 fn other_row(rt: &impl Abort, alloc: Global, other: &Other, text: &str) {
-    let reply = reply_to_other(rt, alloc, other);
+    let reply = other_text(alloc, other).expect(rt, "no memory");
     must_hold(rt, text, reply.as_slice() == text.as_bytes());
 }
 
