@@ -49,15 +49,20 @@ impl Listener for Board {
     }
 }
 
-// Begins so many messages, each to be passed on so often.
+// Begins so many messages, each to be passed on so often; and behind each message so many again.
 #[derive(Drop)]
 pub(crate) struct Beginnings {
     pub begins: u32,
     pub often: u32,
+    pub behind: u32,
 }
 
 impl Chores for Beginnings {
-    fn note(&mut self, _took: Took, _completed: Option<RequestId>) {}
+    fn note(&mut self, took: Took, _completed: Option<RequestId>) {
+        if took != Took::Order && self.behind > 0 {
+            self.begins = self.behind;
+        }
+    }
 
     fn due(&mut self) -> Result<Option<Local>, NoMemory> {
         if self.begins == 0 {

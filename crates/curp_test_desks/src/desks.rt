@@ -87,6 +87,7 @@ fn members<'a>(
         let chores = Beginnings {
             begins: *begins,
             often: plan.often,
+            behind: 0,
         };
         members.push(member(number, desk, chores, board))?;
     }
@@ -163,7 +164,7 @@ fn counts_of(alloc: Global, desks: Vec<Desk<Relay>>) -> Result<Vec<usize>, NoMem
 }
 
 // How many items it has.
-pub(crate) fn count_of(desk: Desk<Relay>) -> usize {
+fn count_of(desk: Desk<Relay>) -> usize {
     let kept = desk.into_kept();
     let count = kept.journal().len();
     drop(kept);

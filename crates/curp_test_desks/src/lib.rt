@@ -2,12 +2,10 @@
 #![tactic(auto)]
 
 #[cfg(test)]
-mod behind;
-#[cfg(test)]
 mod board;
 #[cfg(test)]
 mod desks;
 #[cfg(test)]
-mod ends;
+mod filled;
 #[cfg(test)]
 mod relay;
