@@ -5,11 +5,11 @@ ghost use Rattle.curp_model.specs.Manager.{opening_config};
 ghost use Rattle.curp_model.specs.World.{shape_of};
 ghost use Rattle.curp_msg.specs.Script.{IsHeader};
 
-use curp_anew::anew_at_opening;
 use curp_base::{Failed, NoMemory, Shared};
 use curp_cmd::{Command, Key, NodeId, NodeKind, Value};
 use curp_gather::{GatherError, Journals, gather};
 use curp_journal::{Arrived, Named};
+use curp_live::anew_at_opening;
 use curp_msg::{Config, Core, Header, Local, Protocol};
 use curp_nodes::{ClientNode, ManagerNode, MasterNode};
 use curp_same::Same;
