@@ -55,11 +55,6 @@ pub(crate) fn ascending<K: Ord + Drop, V: Drop>(
     AscendingPairs::new(pairs)
 }
 
-fn ascending_keys(rt: &impl Abort, keys: Vec<u32>) -> AscendingKeys<u32> {
-    assert!(rt; keys_ascend(&keys));
-    AscendingKeys::new(keys)
-}
-
 // ---- requests and entries
 
 /// From client 1 to master 2.
@@ -95,36 +90,24 @@ pub(crate) fn largest(rt: &impl Abort, value: Value) -> Command {
 /// Two records, a first number, and two expired clients.
 fn table(rt: &impl Abort, alloc: Global) -> TablePart {
     let records = list(rt, alloc, &[(ID, Answer::Done), (OTHER, Answer::Overflow)]);
+    let gone = list(rt, alloc, &[4, 6]);
+    assert!(rt; keys_ascend(&gone));
     TablePart {
         records: ascending(rt, records),
         firsts: ascending(rt, list(rt, alloc, &[(1, 2)])),
-        gone: ascending_keys(rt, list(rt, alloc, &[4, 6])),
+        gone: AscendingKeys::new(gone),
     }
-}
-
-fn two_pairs(rt: &impl Abort, alloc: Global) -> AscendingPairs<Key, Value> {
-    let first = (key(rt, b"a"), value(rt, b"1"));
-    let second = (key(rt, b"b"), value(rt, b""));
-    ascending(rt, list(rt, alloc, &[first, second]))
 }
 
 /// Two pairs and that table.
 fn package(rt: &impl Abort, alloc: Global) -> Shared<Package> {
+    let first = (key(rt, b"a"), value(rt, b"1"));
+    let second = (key(rt, b"b"), value(rt, b""));
     let package = Package {
         lo: 0,
         hi: 0x0fff_ffff_ffff_ffff,
-        pairs: two_pairs(rt, alloc),
+        pairs: ascending(rt, list(rt, alloc, &[first, second])),
         table: table(rt, alloc),
-    };
-    held(rt, alloc, package)
-}
-
-fn no_package(rt: &impl Abort, alloc: Global) -> Shared<Package> {
-    let package = Package {
-        lo: 7,
-        hi: 7,
-        pairs: ascending(rt, Vec::new(alloc)),
-        table: TablePart::new(alloc),
     };
     held(rt, alloc, package)
 }
@@ -150,24 +133,26 @@ pub(crate) fn take(rt: &impl Abort, alloc: Global) -> Entry {
 }
 
 pub(crate) fn give(rt: &impl Abort, alloc: Global) -> Entry {
+    let package = Package {
+        lo: 7,
+        hi: 7,
+        pairs: ascending(rt, Vec::new(alloc)),
+        table: TablePart::new(alloc),
+    };
     Entry::Give {
         migration: 3,
-        package: no_package(rt, alloc),
+        package: held(rt, alloc, package),
     }
-}
-
-fn add_all_kinds(rt: &impl Abort, alloc: Global, entries: &mut Vec<Entry>) {
-    add(rt, entries, op(rt, alloc));
-    add(rt, entries, take(rt, alloc));
-    add(rt, entries, give(rt, alloc));
-    add(rt, entries, Entry::Expire { client: 7 });
 }
 
 /// Entries of all four kinds, so many times.
 pub(crate) fn all_kinds(rt: &impl Abort, alloc: Global, times: usize) -> Vec<Entry> {
     let mut entries = Vec::new(alloc);
     for _ in 0..times {
-        add_all_kinds(rt, alloc, &mut entries);
+        add(rt, &mut entries, op(rt, alloc));
+        add(rt, &mut entries, take(rt, alloc));
+        add(rt, &mut entries, give(rt, alloc));
+        add(rt, &mut entries, Entry::Expire { client: 7 });
     }
     entries
 }

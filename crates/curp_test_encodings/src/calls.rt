@@ -3,7 +3,7 @@
 use curp_base::Failed;
 use curp_msg::Message;
 use curp_same::Same;
-use curp_wire::{FrameError, NoFrame, decode, encode, is_light};
+use curp_wire::{FrameError, decode, encode};
 use std::alloc::Global;
 
 /// The frame of a message, if it has one.
@@ -11,36 +11,19 @@ pub(crate) fn frame_of(alloc: Global, message: &Message) -> Option<Vec<u8>> {
     encode(alloc, message).ok()
 }
 
-/// Why a message wasn't encoded.
-pub(crate) fn refusal_of(alloc: Global, message: &Message) -> Option<Failed<NoFrame>> {
-    encode(alloc, message).err()
-}
-
-/// The message whose frame the bytes begin with.
-pub(crate) fn message_in(alloc: Global, bytes: &[u8]) -> Option<Message> {
-    match read_frame(alloc, bytes) {
-        Ok((message, _)) => Some(message),
-        Err(_) => None,
-    }
-}
-
-fn read_frame(alloc: Global, bytes: &[u8]) -> Result<(Message, usize), Failed<FrameError>> {
+/// The message whose frame the bytes begin with, and where it ends.
+pub(crate) fn read_frame(
+    alloc: Global,
+    bytes: &[u8],
+) -> Result<(Message, usize), Failed<FrameError>> {
     decode(alloc, bytes)
-}
-
-pub(crate) fn is_light_message(message: &Message) -> bool {
-    is_light(message)
-}
-
-fn are_same(one: &Message, other: &Message) -> bool {
-    one.same(other)
 }
 
 /// Whether the bytes begin with the message's frame, of that length.
 pub(crate) fn reads(alloc: Global, bytes: &[u8], message: &Message, length: usize) -> bool {
     match read_frame(alloc, bytes) {
         Ok((found, end)) => {
-            let reads = end == length && are_same(&found, message);
+            let reads = end == length && found.same(message);
             drop(found);
             reads
         }

@@ -6,8 +6,8 @@ use crate::build::{all_kinds, give, largest, op, op_of, request, take, value};
 use crate::hex::{Encoded, bytes_of, encoding_of};
 use crate::holds::must_hold;
 use curp_base::Failed;
-use curp_cmd::{Entry, Request};
-use curp_items::{Fault, pack_entry, read_entry, read_request};
+use curp_cmd::Entry;
+use curp_items::{Fault, encoded, pack_entry, read_entry, read_request};
 use curp_same::Same;
 use std::alloc::Global;
 use std::process::Abort;
@@ -36,18 +36,6 @@ fn entry_of(alloc: Global, bytes: &[u8]) -> Result<(Entry, usize), Failed<Fault>
     read_entry(alloc, bytes)
 }
 
-fn are_same(one: &Entry, other: &Entry) -> bool {
-    one.same(other)
-}
-
-fn encoded(bytes: &[u8]) -> Option<u64> {
-    curp_items::encoded(bytes)
-}
-
-fn read_as(bytes: &[u8]) -> Option<Request> {
-    read_request(bytes)
-}
-
 // ---- an entry and its encoding
 
 fn is_packed(rt: &impl Abort, alloc: Global, entry: &Entry, bytes: &[u8]) -> bool {
@@ -60,7 +48,7 @@ fn is_packed(rt: &impl Abort, alloc: Global, entry: &Entry, bytes: &[u8]) -> boo
 fn length_of(alloc: Global, bytes: &[u8], entry: &Entry) -> Option<usize> {
     match entry_of(alloc, bytes) {
         Ok((found, end)) => {
-            let is_same = are_same(&found, entry);
+            let is_same = found.same(entry);
             drop(found);
             is_same.then_some(end)
         }
@@ -85,16 +73,13 @@ fn is_read(alloc: Global, entry: &Entry, bytes: &[u8]) -> bool {
     length_of(alloc, bytes, entry) == Some(length) && encoded(bytes) == Some(length as u64)
 }
 
-fn request_of(entry: &Entry) -> Option<Request> {
-    match entry {
-        Entry::Op { request, .. } => Some(**request),
-        _ => None,
-    }
-}
-
 /// Whether the entry's request is read, where it has one, and nothing else.
 fn has_its_request(entry: &Entry, bytes: &[u8]) -> bool {
-    read_as(bytes) == request_of(entry)
+    let found = read_request(bytes);
+    match entry {
+        Entry::Op { request, .. } => found == Some(**request),
+        _ => found.is_none(),
+    }
 }
 
 /// Whether these bytes are no entry, for that place, and no request.
@@ -125,7 +110,7 @@ fn is_another(
     bytes: Option<&[u8]>,
 ) -> bool {
     match bytes {
-        Some(prefix) => !are_same(found, entry) && is_packed(rt, alloc, found, prefix),
+        Some(prefix) => !found.same(entry) && is_packed(rt, alloc, found, prefix),
         None => false,
     }
 }
@@ -176,20 +161,16 @@ fn changes_are_told(rt: &impl Abort, alloc: Global, entry: &Entry, encoding: &mu
     true
 }
 
-fn try_entry(rt: &impl Abort, alloc: Global, entry: &Entry, text: &str) {
+fn row(rt: &impl Abort, alloc: Global, entry: Entry, text: &str) {
     let mut encoding = encoding_of(rt, alloc, text);
-    let is_packed = is_packed(rt, alloc, entry, &encoding.bytes);
+    let is_packed = is_packed(rt, alloc, &entry, &encoding.bytes);
     must_hold(rt, text, "packed", is_packed);
-    must_hold(rt, text, "read", is_read(alloc, entry, &encoding.bytes));
-    let is_asked = has_its_request(entry, &encoding.bytes);
+    must_hold(rt, text, "read", is_read(alloc, &entry, &encoding.bytes));
+    let is_asked = has_its_request(&entry, &encoding.bytes);
     must_hold(rt, text, "request", is_asked);
     must_hold(rt, text, "cut", cuts_are_told(alloc, &encoding));
-    let are_told = changes_are_told(rt, alloc, entry, &mut encoding);
+    let are_told = changes_are_told(rt, alloc, &entry, &mut encoding);
     must_hold(rt, text, "changed", are_told);
-}
-
-fn row(rt: &impl Abort, alloc: Global, entry: Entry, text: &str) {
-    try_entry(rt, alloc, &entry, text);
     drop(entry);
 }
 
@@ -247,7 +228,7 @@ static NONE: [(&str, u64); 9] = [
 fn try_none(rt: &impl Abort, alloc: Global, text: &str, place: u64) {
     let bytes = bytes_of(rt, alloc, text);
     must_hold(rt, text, "entry", is_none(alloc, &bytes, place));
-    must_hold(rt, text, "request", read_as(&bytes).is_none());
+    must_hold(rt, text, "request", read_request(&bytes).is_none());
 }
 
 #[test]

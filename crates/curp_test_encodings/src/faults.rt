@@ -8,14 +8,10 @@ use curp_wire::FrameError;
 use std::alloc::Global;
 use std::process::Abort;
 
-fn fault_in(rt: &impl Abort, alloc: Global, text: &str) -> Option<Failed<FrameError>> {
-    let bytes = bytes_of(rt, alloc, text);
-    fault_of(alloc, &bytes)
-}
-
 fn try_fault(rt: &impl Abort, alloc: Global, text: &str, why: FrameError) {
-    let why = Failed::Because(why);
-    must_hold(rt, text, "fault", fault_in(rt, alloc, text) == Some(why));
+    let bytes = bytes_of(rt, alloc, text);
+    let found = fault_of(alloc, &bytes);
+    must_hold(rt, text, "fault", found == Some(Failed::Because(why)));
 }
 
 /// Each row has a frame and its fault.
@@ -131,7 +127,8 @@ fn fault_with(
 ) -> Option<Failed<FrameError>> {
     let letters = "78".repeat(alloc, count).expect(rt, "no memory");
     let text = text.replace(alloc, "X", &letters).expect(rt, "no memory");
-    fault_in(rt, alloc, &text)
+    let bytes = bytes_of(rt, alloc, &text);
+    fault_of(alloc, &bytes)
 }
 
 /// A value of 128 bytes is one, and one of 129 bytes isn't.

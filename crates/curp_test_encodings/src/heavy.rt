@@ -1,25 +1,25 @@
 //! Frames of messages that aren't light, written by hand, and messages that have none.
 
-use crate::calls::{frame_of, is_light_message, message_in, refusal_of};
+use crate::calls::{frame_of, read_frame};
 use crate::hex::bytes_of;
 use crate::holds::must_hold;
 use curp_base::Failed;
 use curp_cmd::NodeId;
 use curp_msg::{Body, Message};
-use curp_wire::NoFrame;
+use curp_wire::{NoFrame, encode, is_light};
 use std::alloc::Global;
 use std::process::Abort;
 
 /// Whether the bytes are the frame of a message that isn't light, which is written as they stand.
 fn is_heavy_frame(alloc: Global, bytes: &[u8]) -> bool {
-    let Some(message) = message_in(alloc, bytes) else {
+    let Ok((message, _)) = read_frame(alloc, bytes) else {
         return false;
     };
     let is_written = match frame_of(alloc, &message) {
         Some(frame) => frame.as_slice() == bytes,
         None => false,
     };
-    let light = is_light_message(&message);
+    let light = is_light(&message);
     drop(message);
     is_written && !light
 }
@@ -62,7 +62,7 @@ fn has_no_frame(alloc: Global, from: NodeId) -> bool {
         to: NodeId::manager(),
         body: Body::Fetch,
     };
-    let refusal = refusal_of(alloc, &message);
+    let refusal = encode(alloc, &message).err();
     drop(message);
     refusal == Some(Failed::Because(NoFrame))
 }

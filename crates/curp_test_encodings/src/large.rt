@@ -3,10 +3,11 @@
 use crate::build::{
     add, ascending, boxed, held, key, largest, message, op_of, request, share, value,
 };
-use crate::calls::{frame_of, is_light_message, reads};
+use crate::calls::{frame_of, reads};
 use curp_base::Items;
 use curp_cmd::{Command, Entry, Key, Package, Request, RequestId, TablePart, Value};
 use curp_msg::{Append, Body, Message, Parcel};
+use curp_wire::is_light;
 use std::alloc::Global;
 use std::process::Abort;
 
@@ -27,7 +28,7 @@ fn has_frame_of(alloc: Global, body: Body, length: usize) -> bool {
 
 fn is_heavy(body: Body) -> bool {
     let message = message(body);
-    let light = is_light_message(&message);
+    let light = is_light(&message);
     drop(message);
     !light
 }

@@ -1,9 +1,9 @@
-//! What the tests build by calls of which they know nothing. A test ends where something isn't built. Nothing is promised
-//! of what is built: a test has to be safe, and what a call promises would join each goal of its caller.
+//! What the tests of several files build alike. A test ends where something isn't built. Nothing is promised of what is
+//! built: a test has to be safe, and what a call promises would join each goal of its caller.
 ghost use Rattle.std.specs.Prelude.{◌≡◌, Ok};
 
 use curp_base::{NoMemory, Shared};
-use curp_cmd::{Command, Key, Request, RequestId};
+use curp_cmd::{Command, Key, Request, RequestId, Value};
 use std::alloc::Global;
 use std::process::Abort;
 
@@ -12,6 +12,11 @@ pub(crate) fn right(rt: &impl Abort, so: bool, what: &str) {
     if !so {
         rt.panic(what)
     }
+}
+
+// The same of one of several, told by its place.
+pub(crate) fn right_at(rt: &impl Abort, so: bool, what: &str, place: u64) {
+    assert!(rt; so, "{what}, at {place}");
 }
 
 pub(crate) fn must<T, E: Drop>(rt: &impl Abort, answer: Result<T, E>) -> T {
@@ -30,6 +35,10 @@ pub(crate) fn made(rt: &impl Abort, answer: Result<(), NoMemory>)
 
 pub(crate) fn key(rt: &impl Abort, bytes: &[u8]) -> Key {
     must(rt, Key::new(bytes))
+}
+
+pub(crate) fn value(rt: &impl Abort, bytes: &[u8]) -> Value {
+    must(rt, Value::new(bytes))
 }
 
 pub(crate) fn id(client: u32, seq: u32) -> RequestId {

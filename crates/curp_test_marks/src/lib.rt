@@ -1,7 +1,9 @@
-//! Tests of the marks of updates and reads by their public calls.
+//! Tests of witnesses, and of the marks of updates and reads, by their public calls.
 #![tactic(auto)]
 
 #[cfg(test)]
 mod build;
 #[cfg(test)]
 mod marks;
+#[cfg(test)]
+mod witness;

@@ -1,4 +1,4 @@
-//! Tests of messages, of any node that takes them, and of witnesses, by their public calls.
+//! Tests of messages, and of any node that takes them, by their public calls.
 #![tactic(auto)]
 
 #[cfg(test)]
@@ -11,5 +11,3 @@ mod carried;
 mod messages;
 #[cfg(test)]
 mod texts;
-#[cfg(test)]
-mod witness;

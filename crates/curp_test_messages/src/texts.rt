@@ -1,10 +1,9 @@
 //! The texts of messages, orders, what nodes do, and how steps went.
 
 use crate::build::{id, key, must, request, right, shared, value};
-use curp_base::{Failed, Items, Shared};
+use curp_base::{Items, Shared};
 use curp_cmd::{Answer, Command, Keeper, NodeId};
 use curp_msg::{Ask, Body, Completed, Done, Input, Local, Message, Reason, Refusal, StepResult};
-use curp_slots::BadShape;
 use std::alloc::Global;
 use std::fmt::{Debug, Display};
 use std::process::Abort;
@@ -54,19 +53,6 @@ fn messages_have_texts(rt: HostRuntime) {
         alloc,
         &Input::Message(&message),
         "C1 M1 update 1.1 f1 e1 v1 put 61 31",
-    );
-}
-
-#[test]
-fn failures_have_texts(rt: HostRuntime) {
-    let alloc = rt.alloc();
-    let no_memory: Failed<BadShape> = Failed::NoMemory;
-    shows(&rt, alloc, &no_memory, "out of memory");
-    shows(
-        &rt,
-        alloc,
-        &Failed::Because(BadShape),
-        "a witness has 1 to 1024 sets of 1 to 16 ways",
     );
 }
 

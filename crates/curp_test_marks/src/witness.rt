@@ -121,6 +121,23 @@ fn has_the_shapes_that_are_allowed(rt: HostRuntime) {
     }
 }
 
+fn shows(rt: &impl Abort, alloc: Global, failed: &Failed<BadShape>, text: &str) {
+    let written = must(rt, format!(in alloc; "{failed}"));
+    right(rt, written.as_str() == text, text);
+    drop(written);
+}
+
+#[test]
+fn failures_have_texts(rt: HostRuntime) {
+    shows(&rt, rt.alloc(), &Failed::NoMemory, "out of memory");
+    shows(
+        &rt,
+        rt.alloc(),
+        &Failed::Because(BadShape),
+        "a witness has 1 to 1024 sets of 1 to 16 ways",
+    );
+}
+
 #[test]
 fn answers_each_call(rt: HostRuntime) {
     let mut witness = idle(&rt, rt.alloc(), 1, 1);
