@@ -47,7 +47,6 @@ enum Comes {
 }
 
 // What a node says, does or refuses then.
-#[derive(Clone, Copy, PartialEq, Eq)]
 enum Said {
     Update(u32),
     Sync(u32),
@@ -69,7 +68,8 @@ enum Said {
     Suspects(u32, usize),
     // Whether a witness takes requests of that epoch.
     Probed(u32, bool),
-    Another,
+    // A collection was of another epoch.
+    Stranger,
     Completes(u32),
     Refuses(u8),
 }
@@ -148,7 +148,7 @@ const WITNESS: [(Comes, &[Said]); 13] = [
     ),
     (Comes::Round, &[]),
     (Comes::Update(1), &[]),
-    (Comes::Collect(2, 1), &[Said::Another]),
+    (Comes::Collect(2, 1), &[Said::Stranger]),
     (Comes::Collect(1, 1), &[Said::Suspects(1, 0)]),
     (Comes::Record(2), &[Said::Accepted(2, 1)]),
     (Comes::Collect(1, 1), &[Said::Suspects(1, 0)]),
@@ -211,16 +211,11 @@ fn a_witness_answers_what_comes(rt: HostRuntime) {
     drop(witness);
 }
 
-fn are(said: &[Said], expected: &[Said]) -> bool {
-    said == expected
-}
-
 fn try_rows<N: Core>(rt: &impl Abort, alloc: Global, node: &mut N, rows: &[(Comes, &[Said])]) {
     for (at, (comes, expected)) in rows.iter().enumerate() {
         let done = give(rt, alloc, node, *comes);
-        let said = said_by(rt, alloc, &done);
+        right_at(rt, is_done(&done, expected), "rows", at as u64);
         drop(done);
-        right_at(rt, are(&said, expected), "rows", at as u64);
     }
 }
 
@@ -398,61 +393,87 @@ fn recover(rt: &impl Abort, alloc: Global) -> Recover {
     }
 }
 
-fn said_by(rt: &impl Abort, alloc: Global, done: &Done) -> Vec<Said> {
-    let mut said = Vec::new(alloc);
-    for message in done.sent.as_slice() {
-        must(rt, said.push(said_in(&message.body)));
+// Whether the node says all that, and then completes or refuses what is behind.
+fn is_done(done: &Done, expected: &[Said]) -> bool {
+    let sent = done.sent.as_slice();
+    for (at, message) in sent.iter().enumerate() {
+        match expected.get(at) {
+            Some(said) if is_said(&message.body, said) => {}
+            _ => return false,
+        }
     }
-    if let Some(completed) = &done.completed {
-        must(rt, said.push(Said::Completes(completed.id.client)));
-    }
-    if done.refused != 0 {
-        must(rt, said.push(Said::Refuses(done.refused)));
-    }
-    said
-}
-
-fn said_in(body: &Body) -> Said {
-    match body {
-        Body::Update(ask) => Said::Update(ask.request.id.client),
-        Body::Sync(ask) => Said::Sync(ask.request.id.client),
-        Body::Record(record) => Said::Record(record.request.id.client),
-        Body::Fetch => Said::Fetch,
-        Body::Reply(reply) => Said::Reply(reply.get().id.client, reply.get().synced),
-        Body::Refuse(refuse) => refused(refuse),
-        Body::Fence { epoch } => Said::Fence(*epoch),
-        Body::Freeze { epoch } => Said::Freeze(*epoch),
-        Body::Recovered(_) => Said::Recovered,
-        Body::Append(append) => Said::Append(append.base, append.entries.len(), append.round),
-        Body::Appended(appended) => Said::Appended(appended.round, appended.answer),
-        Body::FenceAnswer(answered) => fenced(&answered.answer),
-        Body::Accepted(accepted) => Said::Accepted(accepted.id.client, accepted.epoch),
-        Body::Rejected(rejected) => Said::Rejected(rejected.id.client, rejected.reason),
-        Body::FrozenAnswer { requests } => Said::Frozen(requests.len()),
-        Body::Collected(collected) => told(collected),
-        Body::Probed(probed) => Said::Probed(probed.epoch, probed.live),
-        _ => Said::Another,
+    match (&done.completed, done.refused, expected.get(sent.len()..)) {
+        (None, 0, Some([])) => true,
+        (Some(completed), 0, Some([Said::Completes(client)])) => completed.id.client == *client,
+        (None, refused, Some([Said::Refuses(number)])) => refused == *number,
+        _ => false,
     }
 }
 
-fn refused(refuse: &Refuse) -> Said {
-    match refuse.refusal {
-        Refusal::InProgress => Said::InProgress(refuse.id.client),
-        Refusal::Switching => Said::Switching(refuse.id.client),
-        _ => Said::Another,
+fn is_said(body: &Body, said: &Said) -> bool {
+    match (body, said) {
+        (Body::Update(ask), Said::Update(client)) => ask.request.id.client == *client,
+        (Body::Sync(ask), Said::Sync(client)) => ask.request.id.client == *client,
+        (Body::Record(record), Said::Record(client)) => record.request.id.client == *client,
+        (Body::Fetch, Said::Fetch) | (Body::Recovered(_), Said::Recovered) => true,
+        (Body::Fence { epoch }, Said::Fence(expected)) => epoch == expected,
+        (Body::Freeze { epoch }, Said::Freeze(expected)) => epoch == expected,
+        (Body::Append(append), Said::Append(base, count, round)) => {
+            append.base == *base && append.entries.len() == *count && append.round == *round
+        }
+        _ => is_answer(body, said),
     }
 }
 
-fn fenced(answer: &FenceReply) -> Said {
+fn is_answer(body: &Body, said: &Said) -> bool {
+    match (body, said) {
+        (Body::Reply(reply), Said::Reply(client, synced)) => {
+            reply.get().id.client == *client && reply.get().synced == *synced
+        }
+        (Body::Refuse(refuse), Said::InProgress(client)) => {
+            refuse.id.client == *client && matches!(refuse.refusal, Refusal::InProgress)
+        }
+        (Body::Refuse(refuse), Said::Switching(client)) => {
+            refuse.id.client == *client && matches!(refuse.refusal, Refusal::Switching)
+        }
+        (Body::Appended(appended), Said::Appended(round, answer)) => {
+            appended.round == *round && appended.answer == *answer
+        }
+        (Body::FenceAnswer(answered), Said::Log(count)) => is_log(&answered.answer, *count),
+        _ => is_of_witness(body, said),
+    }
+}
+
+fn is_log(answer: &FenceReply, count: usize) -> bool {
     match answer {
-        FenceReply::Log(entries) => Said::Log(entries.len()),
-        FenceReply::Fenced { .. } => Said::Another,
+        FenceReply::Log(entries) => entries.len() == count,
+        FenceReply::Fenced { .. } => false,
     }
 }
 
-fn told(collected: &Collected) -> Said {
-    match &collected.answer {
-        GcAnswer::Suspects(suspects) => Said::Suspects(collected.epoch, suspects.len()),
-        GcAnswer::Stranger { .. } => Said::Another,
+fn is_of_witness(body: &Body, said: &Said) -> bool {
+    match (body, said) {
+        (Body::Accepted(accepted), Said::Accepted(client, epoch)) => {
+            accepted.id.client == *client && accepted.epoch == *epoch
+        }
+        (Body::Rejected(rejected), Said::Rejected(client, reason)) => {
+            rejected.id.client == *client && rejected.reason == *reason
+        }
+        (Body::FrozenAnswer { requests }, Said::Frozen(count)) => requests.len() == *count,
+        (Body::Probed(probed), Said::Probed(epoch, live)) => {
+            probed.epoch == *epoch && probed.live == *live
+        }
+        (Body::Collected(collected), said) => is_collected(collected, said),
+        _ => false,
+    }
+}
+
+fn is_collected(collected: &Collected, said: &Said) -> bool {
+    match (&collected.answer, said) {
+        (GcAnswer::Suspects(suspects), Said::Suspects(epoch, count)) => {
+            collected.epoch == *epoch && suspects.len() == *count
+        }
+        (GcAnswer::Stranger { .. }, Said::Stranger) => true,
+        _ => false,
     }
 }
