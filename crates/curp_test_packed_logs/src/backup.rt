@@ -12,16 +12,15 @@ use std::process::Abort;
 enum Row {
     Install(u32, Result<(), Fenced>),
     Append(u32, u64, &'static [u32], Result<u64, AppendError>),
-    Fence(u32, &'static [u32]),
-    FenceFails(u32, Fenced),
+    Fence(u32, Result<&'static [u32], Fenced>),
 }
 
 fn installs(backup: &mut Backup, epoch: u32, answer: Result<(), Fenced>) -> bool {
-    backup.install(epoch) == answer
-}
-
-fn fails(backup: &mut Backup, epoch: u32, fenced: Fenced) -> bool {
-    backup.fence(epoch).err() == Some(Failed::Because(fenced))
+    match (backup.install(epoch), answer) {
+        (Ok(()), Ok(())) => true,
+        (Err(why), Err(expected)) => why.epoch == expected.epoch,
+        _ => false,
+    }
 }
 
 fn appends(
@@ -35,7 +34,11 @@ fn appends(
     let entries = entries_of(rt, alloc, clients);
     let found = backup.append(epoch, base, &entries, 1);
     drop(entries);
-    found == answer.map_err(Failed::Because)
+    match (found, answer) {
+        (Ok(length), Ok(expected)) => length == expected,
+        (Err(Failed::Because(why)), Err(expected)) => why == expected,
+        _ => false,
+    }
 }
 
 fn entries_of(rt: &impl Abort, alloc: Global, clients: &[u32]) -> Vec<Entry> {
@@ -46,11 +49,15 @@ fn entries_of(rt: &impl Abort, alloc: Global, clients: &[u32]) -> Vec<Entry> {
     entries
 }
 
-fn gives(rt: &impl Abort, backup: &mut Backup, epoch: u32, clients: &[u32]) -> bool {
-    let log = must(rt, backup.fence(epoch));
-    let are = are_of(&log, clients);
-    drop(log);
-    are
+fn fences(backup: &mut Backup, epoch: u32, answer: Result<&[u32], Fenced>) -> bool {
+    let found = backup.fence(epoch);
+    let is = match (&found, answer) {
+        (Ok(log), Ok(clients)) => are_of(log, clients),
+        (Err(Failed::Because(why)), Err(expected)) => why.epoch == expected.epoch,
+        _ => false,
+    };
+    drop(found);
+    is
 }
 
 fn are_of(entries: &[Entry], clients: &[u32]) -> bool {
@@ -69,8 +76,7 @@ fn answers(rt: &impl Abort, alloc: Global, backup: &mut Backup, row: Row) -> boo
         Row::Append(epoch, base, clients, answer) => {
             appends(rt, alloc, backup, (epoch, base), clients, answer)
         }
-        Row::Fence(epoch, clients) => gives(rt, backup, epoch, clients),
-        Row::FenceFails(epoch, fenced) => fails(backup, epoch, fenced),
+        Row::Fence(epoch, answer) => fences(backup, epoch, answer),
     }
 }
 
@@ -91,11 +97,11 @@ const ROWS: [Row; 19] = [
     Row::Append(1, 4, &[11], Err(AppendError::Gap { length: 3 })),
     Row::Append(2, 4, &[11], Err(AppendError::NotInstalled)),
     Row::Append(1, 3, &[10], Ok(4)),
-    Row::Fence(1, &[7, 8, 9, 10]),
+    Row::Fence(1, Ok(&[7, 8, 9, 10])),
     Row::Append(1, 4, &[11], Ok(5)),
-    Row::Fence(3, &[7, 8, 9, 10, 11]),
-    Row::Fence(3, &[7, 8, 9, 10, 11]),
-    Row::FenceFails(2, Fenced { epoch: 3 }),
+    Row::Fence(3, Ok(&[7, 8, 9, 10, 11])),
+    Row::Fence(3, Ok(&[7, 8, 9, 10, 11])),
+    Row::Fence(2, Err(Fenced { epoch: 3 })),
     Row::Append(1, 5, &[12], Err(AppendError::Fenced { epoch: 3 })),
     Row::Append(2, 9, &[12], Err(AppendError::Fenced { epoch: 3 })),
     Row::Install(1, Err(Fenced { epoch: 3 })),
@@ -134,11 +140,10 @@ fn try_append(
     entries: &[Entry],
     length: u64,
 ) {
-    right(
-        rt,
-        backup.append(1, base, entries, round) == Ok(length),
-        "append",
-    );
+    match backup.append(1, base, entries, round) {
+        Ok(found) => right(rt, found == length, "append"),
+        Err(_) => rt.panic("no append"),
+    }
 }
 
 fn try_many(rt: &impl Abort, alloc: Global, backup: &mut Backup, entries: &[Entry]) {
@@ -152,7 +157,7 @@ fn try_many(rt: &impl Abort, alloc: Global, backup: &mut Backup, entries: &[Entr
 }
 
 const BELOW_ITS_FENCE: [Row; 5] = [
-    Row::Fence(2, &[]),
+    Row::Fence(2, Ok(&[])),
     Row::Install(1, Err(Fenced { epoch: 2 })),
     Row::Append(2, 0, &[7], Err(AppendError::NotInstalled)),
     Row::Install(2, Ok(())),
